@@ -1,0 +1,101 @@
+-- What entries without a fault promise, one by one and in their order.
+use mathlib.Core.Path.{_≡_, _∙_}
+use mathlib.Core.Bool.{true, false, _&&_, _||_}
+use mathlib.Core.List.{List}
+use mathlib.Core.Logic.{inl, inr, _≢_}
+use Prim.Native.Nat.{ℕ, zero, suc, _≤_, _<_}
+use native.Mathlib.Omega.{arith}
+use lib.Dec.{eqb, ltb, leb}
+use borrow.Author.Tests.{ltb-true, ltb-false, leb-false, eqb-true, eqb-false, not-false}
+use Rattle.sheet.specs.declared.Entry.{Entry}
+use Rattle.sheet.specs.Format.{entryIn}
+use Rattle.sheet.specs.Refusals.{after, outside, noBand, misplaced, entryFault, entriesFault}
+use Rattle.sheet.specs.Promise.{Before}
+use Rattle.sheet.proofs.Cases.{case, lt-ge, eq-ne, or-false, and-true, or-true}
+use Rattle.sheet.proofs.AnyBelow.{first-none, when-none}
+
+-- an entry of a sheet with n joints
+pub record Sound (n : ℕ) (e : Entry) : Type 0 where
+  pub joint-below : e .joint < n
+  pub other-below : e .other < n
+  pub not-itself : e .joint ≢ e .other
+  pub band-above : 1 ≤ e .band
+  pub band-below : e .band ≤ 127
+
+inside-sound : (n : ℕ) (e : Entry) → outside n e ≡ false → noBand e ≡ false → Sound n e
+inside-sound n e hin hband =
+    let (j, rest) = or-false (leb n (e .joint)) (leb n (e .other) || eqb (e .joint) (e .other)) hin in
+    let (o, ne) = or-false (leb n (e .other)) (eqb (e .joint) (e .other)) rest in
+    let (low, high) = or-false (eqb (e .band) 0) (ltb 127 (e .band)) hband in
+    let some : e .band ≢ 0 = eqb-false (e .band) 0 low in
+    record {
+      joint-below = leb-false n (e .joint) j;
+      other-below = leb-false n (e .other) o;
+      not-itself = eqb-false (e .joint) (e .other) ne;
+      band-above = omega arith;
+      band-below = ltb-false 127 (e .band) high;
+    }
+
+after-before : (d e : Entry) → after e d ≡ true → Before d e
+after-before d e h =
+    case (or-true (ltb (d .joint) (e .joint)) (eqb (d .joint) (e .joint) && ltb (d .other) (e .other)) h)
+    (λ l. inl (ltb-true (d .joint) (e .joint) l))
+    (λ both. let (same, l) = and-true (eqb (d .joint) (e .joint)) (ltb (d .other) (e .other)) both in
+    inr (eqb-true (d .joint) (e .joint) same, ltb-true (d .other) (e .other) l))
+
+-- entry j has no fault where none of the first m has
+pub no-fault : (m n : ℕ) (part : List ℕ) → entriesFault m n part ≡ 0 → (j : ℕ) → j < m → entryFault n part j ≡ 0
+unfolding entriesFault
+no-fault zero n part h j l = absurd (omega arith)
+no-fault (suc m) n part h j l =
+    let (before, here) = first-none (entriesFault m n part) (entryFault n part m) h in
+    case (eq-ne j m) (λ e. rw e here) (λ ne. no-fault m n part before j (omega arith))
+
+-- the tests of an entry without a fault
+tests-fail : (n : ℕ) (part : List ℕ) (j : ℕ) → entryFault n part j ≡ 0
+    → (outside n (entryIn part j) ≡ false) × (noBand (entryIn part j) ≡ false) × (misplaced part j ≡ false)
+unfolding entryFault
+tests-fail n part j h =
+    let (h4, rest) = first-none _ _ h in
+    let (h5, h6) = first-none _ _ rest in
+    (when-none _ _ h4, when-none _ _ h5, when-none _ _ h6)
+
+pub entry-sound : (m n : ℕ) (part : List ℕ) → entriesFault m n part ≡ 0 → (j : ℕ) → j < m → Sound n (entryIn part j)
+entry-sound m n part h j l =
+    let t = tests-fail n part j (no-fault m n part h j l) in inside-sound n (entryIn part j) (t .0) (t .1)
+
+-- .. and fits the square
+pub entry-fits : (m n : ℕ) (part : List ℕ) → entriesFault m n part ≡ 0 → n ≤ 128
+    → (j : ℕ) → j < m → (entryIn part j .joint < 128) × (entryIn part j .other < 128)
+entry-fits m n part h few j l = let s = entry-sound m n part h j l in omega arith
+
+pub next-after : (m n : ℕ) (part : List ℕ) → entriesFault m n part ≡ 0
+    → (j : ℕ) → suc j < m → Before (entryIn part j) (entryIn part (suc j))
+next-after m n part h j l =
+    let t = tests-fail n part (suc j) (no-fault m n part h (suc j) l) in
+    after-before (entryIn part j) (entryIn part (suc j)) (not-false _ (t .2))
+
+pub before-trans : (c d e : Entry) → Before c d → Before d e → Before c e
+before-trans c d e h g =
+    case h
+    (λ l. inl (case g (λ k. omega arith) (λ k. omega arith)))
+    (λ s. case g (λ k. inl (omega arith)) (λ k. inr (s .0 ∙ k .0, omega arith)))
+
+-- entries without a fault ascend strictly
+pub ascend : (m n : ℕ) (part : List ℕ) → entriesFault m n part ≡ 0
+    → (i j : ℕ) → i < j → j < m → Before (entryIn part i) (entryIn part j)
+ascend m n part h i zero l k = absurd (omega arith)
+ascend m n part h i (suc j) l k =
+    case (eq-ne i j)
+    (λ e. rw e (next-after m n part h j k))
+    (λ ne. before-trans (entryIn part i) (entryIn part j) (entryIn part (suc j))
+    (ascend m n part h i j (omega arith) (omega arith)) (next-after m n part h j k))
+
+-- so no two of them have the same place
+pub one-place : (m n : ℕ) (part : List ℕ) → entriesFault m n part ≡ 0 → (i j : ℕ) → i < m → j < m
+    → entryIn part i .joint ≡ entryIn part j .joint → entryIn part i .other ≡ entryIn part j .other → i ≡ j
+one-place m n part h i j li lj same-joint same-other =
+    case (lt-ge i j)
+    (λ l. case (ascend m n part h i j l lj) (λ b. absurd (omega arith)) (λ b. absurd (omega arith)))
+    (λ g. case (eq-ne i j) (λ e. e)
+    (λ ne. case (ascend m n part h j i (omega arith) li) (λ b. absurd (omega arith)) (λ b. absurd (omega arith))))

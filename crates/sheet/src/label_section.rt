@@ -1,0 +1,127 @@
+// The labels' section.
+use crate::Labels;
+ghost use mathlib.Core.Path.{_≡_};
+ghost use Prim.Native.Nat.{_+_, _*_, _<_, _≤_};
+ghost use lib.ListN.{length, drop};
+ghost use Rattle.sheet.specs.Format.{labelAt};
+ghost use Rattle.sheet.specs.Refusals.{visible, visibleRun, allZero, labelOk, repeats, labelBad, anyBelow};
+ghost use Rattle.sheet.specs.Readings.{labelsReading};
+
+fn is_visible(b: u8) -> bool
+    ensures { λ r. ⌜ r ≡ visible b ⌝ }
+{
+    if 33 <= b { b <= 126 } else { false }
+}
+
+// How many visible bytes a label begins with.
+pub fn visible_run(label: &[u8]) -> usize
+    ensures { λ r. ⌜ r ≡ visibleRun (now (label .entry)) ⌝ }
+    ensures { λ r. ⌜ r ≤ length (now (label .entry)) ⌝ }
+{
+    let mut i = 0;
+    while i < label.len() {
+        let seen = is_visible(label[i]);
+        if !seen {
+            return i;
+        }
+        i += 1;
+    }
+    i
+}
+
+// Are all bytes from `start` on zero?
+fn zero_from(label: &[u8], start: usize) -> bool
+    requires { ⌜ start ≤ length (now label) ⌝ }
+    ensures { λ r. ⌜ r ≡ allZero (drop start (now (label .entry))) ⌝ }
+{
+    let mut i = start;
+    while i < label.len() {
+        if label[i] != 0 {
+            return false;
+        }
+        i += 1;
+    }
+    true
+}
+
+fn label_ok(label: &[u8]) -> bool
+    ensures { λ r. ⌜ r ≡ labelOk (now (label .entry)) ⌝ }
+{
+    let run = visible_run(label);
+    if 1 <= run {
+        zero_from(label, run)
+    } else {
+        false
+    }
+}
+
+// Label i of a sheet, or of a part of it, whose labels begin at `labels`.
+pub(crate) fn label_at(sheet: &[u8], labels: usize, i: usize) -> &[u8]
+    requires { ⌜ (i < 128) × (labels + 16 * i + 16 ≤ length (now sheet)) ⌝ }
+    ensures { λ r. ⌜ now r ≡ labelAt (now (sheet .entry)) labels i ⌝ }
+{
+    let start = labels + 16 * i;
+    &sheet[start..start + 16]
+}
+
+fn repeats_label(part: &[u8], i: usize, j: usize) -> bool
+    requires { ⌜ (i < 128) × ((16 * i + 16 ≤ length (now part)) × (j < i)) ⌝ }
+    ensures { λ r. ⌜ r ≡ repeats (now (part .entry)) i j ⌝ }
+{
+    check::same(label_at(part, 0, i), label_at(part, 0, j))
+}
+
+// Does label i repeat an earlier one?
+fn repeats_any(part: &[u8], i: usize) -> bool
+    requires { ⌜ (i < 128) × (16 * i + 16 ≤ length (now part)) ⌝ }
+    ensures { λ r. ⌜ r ≡ anyBelow i (repeats (now (part .entry)) i) ⌝ }
+{
+    let mut j = 0;
+    while j < i {
+        let again = repeats_label(part, i, j);
+        if again {
+            return true;
+        }
+        j += 1;
+    }
+    false
+}
+
+fn label_bad(part: &[u8], i: usize) -> bool
+    requires { ⌜ (i < 128) × (16 * i + 16 ≤ length (now part)) ⌝ }
+    ensures { λ r. ⌜ r ≡ labelBad (now (part .entry)) i ⌝ }
+{
+    let ok = label_ok(label_at(part, 0, i));
+    if ok { repeats_any(part, i) } else { true }
+}
+
+fn some_label_bad(part: &[u8], n: usize) -> bool
+    requires { ⌜ (n ≤ 128) × (16 * n ≤ length (now part)) ⌝ }
+    ensures { λ r. ⌜ r ≡ anyBelow n (labelBad (now (part .entry))) ⌝ }
+{
+    let mut i = 0;
+    while i < n {
+        let bad = label_bad(part, i);
+        if bad {
+            return true;
+        }
+        i += 1;
+    }
+    false
+}
+
+// Reads the n labels that the part begins with.
+pub(crate) fn read_labels(part: &[u8], n: usize) -> Labels
+    requires { ⌜ n ≤ 128 ⌝ }
+    ensures { λ r. ⌜ r ≡ labelsReading n (now (part .entry)) ⌝ }
+{
+    let size = 16 * n;
+    if part.len() < size {
+        return Labels::Refused(1);
+    }
+    let bad = some_label_bad(part, n);
+    if bad {
+        return Labels::Refused(3);
+    }
+    Labels::Read(size)
+}
