@@ -1,0 +1,36 @@
+-- The calls' answers as C has them: one number whose lowest byte is the refusal's number, 0 for none.
+use Prim.Native.Nat.{ℕ, _+_, _*_, _^_}
+use Rattle.matching.specs.declared.Checked.{Checked}
+use Rattle.matching.specs.declared.Checked.the-variants as K
+use Rattle.pairing.specs.declared.Phase.the-variants as P
+use Rattle.pairing.specs.declared.End.the-variants as E
+use Rattle.pairing.specs.declared.Settled.{Settled}
+use Rattle.pairing.specs.declared.Settled.the-variants as S
+use Rattle.pairing.specs.declared.Shortened.{Shortened}
+use Rattle.pairing.specs.declared.Shortened.the-variants as L
+use Rattle.pairing.specs.declared.Counts.{Counts}
+
+-- a refusal's number, a verdict and a count in 32 bits
+abbrev pub packed : ℕ → ℕ → ℕ → ℕ
+packed number verdict count = number + 256 * verdict + 65536 * count
+
+-- Verdict 1 is none in phase one, 2 none in phase two, 3 a pairing or lists; beside a refusal it is 0.
+abbrev pub settledCode : Settled → ℕ
+settledCode (S.Refused k) = packed k 0 0
+settledCode (S.Ended (E.None P.One)) = packed 0 1 0
+settledCode (S.Ended (E.None P.Two)) = packed 0 2 0
+settledCode (S.Ended (E.Paired count)) = packed 0 3 count
+
+abbrev pub shortenedCode : Shortened → ℕ
+shortenedCode (L.Refused k) = packed k 0 0
+shortenedCode L.None = packed 0 1 0
+shortenedCode (L.Lists count) = packed 0 3 count
+
+-- 1 in the verdict's place if the pairing holds, else the blocking pair's number in the count's
+abbrev pub checkedCode : Checked → ℕ
+checkedCode (K.Refused k) = packed k 0 0
+checkedCode K.Holds = packed 0 1 0
+checkedCode (K.Blocked pair) = packed 0 0 pair
+
+abbrev pub countsCode : Counts → ℕ
+countsCode c = c .number + 65536 * c .proposals + 2 ^ 32 * c .cuts

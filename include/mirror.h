@@ -1,0 +1,139 @@
+/*
+ * Super-stable pairing of a skeleton's joints: the C interface of libpairing.a.
+ *
+ * Every call takes a sheet, which says for each joint which others it resembles, in bands. A pairing is super-stable if
+ * no two joints that list each other, and are not paired together, would each do at least as well with the other
+ * (an unpaired joint does at least as well with anyone on its list).
+ *
+ * A call ends with an answer for every content and size of its arguments, always the same one for the same bytes. It
+ * keeps nothing between calls, takes no memory but the stack, and may run in several threads at once. What a caller owes:
+ *   - each pointer points to as many bytes as the size after it says (NULL will do where the size is 0);
+ *   - `out` shares no byte with `sheet` or `choices`, and nothing writes to any of them during the call;
+ *   - 256 KiB of stack are free, whatever the sheet (64 KiB for mirror_check). A main thread has far more; a thread that
+ *     is started with a small stack may not.
+ *
+ * The library is for x86-64 Linux and calls memcpy and memset of the C library, nothing else.
+ *
+ * THE SHEET, in bytes, with no gaps:
+ *   1 byte     n, the number of joints, 0 to 128; joints count from 0
+ *   16 x n     a label for each joint: one or more bytes from 33 to 126, then zero bytes to the end; labels differ
+ *   2 bytes    m, the number of entries, low byte first
+ *   3 x m      the entries: joint, candidate, band. Bands are 1 to 127, and lower is better. Equal bands on one joint's
+ *              list are a tie, and gaps between bands mean nothing. Entries ascend by joint, then by candidate.
+ * If a lists b, then b lists a. A joint may list nobody.
+ *
+ * CHOICES settle the order of work, a byte each: in the first phase the joint that proposes next, which must be waiting
+ * (its list is not empty and none of its proposals stands); in the second the joint at whose list the next cut is made,
+ * which must be longer than one. Where there are none, or when they run out, the lowest joint allowed is taken. No legal
+ * choices change whether there is a pairing, how many joints it pairs, or the shortened lists. They may change which of
+ * several super-stable pairings is found. Most callers pass NULL, 0.
+ *
+ * REFUSALS: the lowest byte of every return is 0, or the number of the first thing wrong, looked for in this order:
+ *    1  the sheet ends before n (it is empty)
+ *    2  n is above 128
+ *    1  the sheet ends before its last label does
+ *    3  a label breaks its rule or repeats an earlier one
+ *    1  the sheet ends before m, or before its last entry does
+ *    8  bytes after the last entry
+ *       entry by entry, for the first that is wrong:
+ *    4    a joint not below n, or a joint that lists itself
+ *    5    band 0 or above 127
+ *    6    not after the entry before it
+ *    7  a joint lists another that does not list it
+ *    9  `out` is too short
+ *   10  the offered pairing is not one: not n bytes, a byte that is neither 255 nor a joint, two joints that do not name
+ *       each other, or a pair that is not listed
+ *   11  the chosen joint does not wait, or is no joint (first phase)
+ *   12  the chosen list is not longer than one, or the choice is no joint (second phase)
+ *   13  a choice is left over when the work has ended
+ * A refused call writes nothing, whenever the refusal is met.
+ */
+#ifndef MIRROR_H
+#define MIRROR_H
+
+#include <stddef.h>
+#include <stdint.h>
+#ifndef __cplusplus
+#include <stdbool.h>
+#endif
+
+#ifdef __cplusplus
+extern "C" {
+#endif
+
+/* The most joints, and the sizes in bytes that serve for every sheet: of a sheet that is not refused, and of `out` for
+ * mirror_settle and mirror_shorten. */
+#define MIRROR_JOINTS 128
+#define MIRROR_SHEET_BYTES (1 + 16 * 128 + 2 + 3 * 128 * 127)
+#define MIRROR_PAIRING_BYTES 128
+#define MIRROR_LISTS_BYTES (2 + 3 * 128 * 127)
+
+/* The partner byte of an unpaired joint. */
+#define MIRROR_ALONE 255
+
+/* The parts of what mirror_settle, mirror_shorten and mirror_check return. */
+#define MIRROR_REFUSAL(r) ((unsigned)((r) & 255))
+#define MIRROR_VERDICT(r) ((unsigned)((r) >> 8 & 255))
+#define MIRROR_COUNT(r) ((unsigned)((r) >> 16))
+
+/* Verdicts of mirror_settle and mirror_shorten; 0 with a refusal. */
+#define MIRROR_NONE_PHASE_ONE 1
+#define MIRROR_NONE_PHASE_TWO 2
+#define MIRROR_DONE 3
+
+/*
+ * Looks for a super-stable pairing.
+ *
+ * Returns refusal + 256 x verdict + 65,536 x count:
+ *   verdict 3  a pairing of `count` pairs. out[0 .. n-1] are each joint's partner, 255 for an unpaired joint.
+ *   verdict 1  the sheet has no super-stable pairing, which the first phase showed; count is 0, nothing is written.
+ *   verdict 2  the same, shown by the second phase.
+ *   verdict 0  refused (1 to 8, 9, 11 to 13); count is 0, nothing is written.
+ * `out` needs n bytes or more, also where there turns out to be no pairing. Bytes past the first n stay as they were.
+ */
+uint32_t mirror_settle(const uint8_t *sheet, size_t sheet_size,
+                       const uint8_t *choices, size_t choices_size,
+                       uint8_t *out, size_t out_size);
+
+/*
+ * Shortens the lists: runs the first phase alone and writes the entries that are left.
+ *
+ * Returns refusal + 256 x verdict + 65,536 x count:
+ *   verdict 3  `count` entries are left. `out` begins with the count, two bytes, low byte first, then 3 x count bytes of
+ *              entries in the sheet's form and order, with the sheet's bands.
+ *   verdict 1  the sheet has no super-stable pairing; count is 0, nothing is written.
+ *   verdict 0  refused (1 to 8, 9, 11, 13); count is 0, nothing is written.
+ * `out` needs 2 + 3 x m bytes or more, for the m of the sheet. Bytes past those written stay as they were.
+ */
+uint32_t mirror_shorten(const uint8_t *sheet, size_t sheet_size,
+                        const uint8_t *choices, size_t choices_size,
+                        uint8_t *out, size_t out_size);
+
+/*
+ * Checks an offered pairing: n bytes, each joint's partner, 255 for an unpaired joint.
+ *
+ * Returns refusal + 256 x holds + 65,536 x pair:
+ *   holds 1    no pair blocks the pairing: it is super-stable. pair is 0.
+ *   holds 0    with refusal 0: blocked, and `pair` is the lowest number of a blocking pair. The pair of joints a and b,
+ *              a below b, has the number b x (b - 1) / 2 + a.
+ *              With refusal 1 to 8 or 10: not checked; pair is 0.
+ */
+uint32_t mirror_check(const uint8_t *sheet, size_t sheet_size,
+                      const uint8_t *pairing, size_t pairing_size);
+
+/*
+ * Counts the work that mirror_settle (whole is true) or mirror_shorten (false) does with the same sheet and choices:
+ * proposals of the first phase, one for each joint reached, and cuts of the second.
+ *
+ * Returns refusal + 65,536 x proposals + 2^32 x cuts. Where the sheet is refused (1 to 8) both are 0. Where a choice is
+ * refused (11 to 13) they are those made until then.
+ */
+uint64_t mirror_counts(const uint8_t *sheet, size_t sheet_size,
+                       const uint8_t *choices, size_t choices_size,
+                       bool whole);
+
+#ifdef __cplusplus
+}
+#endif
+
+#endif
