@@ -1,0 +1,336 @@
+/* The rules of document 01 written straight down in C: reading a sheet, phase one, phase two. It shares nothing with the
+ * library and is what the library's times are held against. */
+#include "plain.h"
+
+#include <stdbool.h>
+#include <string.h>
+
+enum { JOINTS = 128, LABEL = 16, ENTRY = 3, ALONE = 255 };
+enum { NONE_ONE = 1, NONE_TWO = 2, PAIRED = 3 };
+
+/* A working. A joint's proposals go to a whole band of its list at once, so the band of its last step tells which of
+ * them stand: those to the joints that it still lists in that band. */
+struct working {
+    int n;
+    uint8_t band[JOINTS][JOINTS]; /* each joint's list, 0 for unlisted or struck */
+    uint8_t asked[JOINTS];        /* the band that a joint last proposed to, 0 before its first step */
+    bool received[JOINTS];        /* has it ever received a proposal? */
+    uint32_t proposals, cuts;
+};
+
+struct choices {
+    const uint8_t *joints;
+    size_t size, used;
+};
+
+/* ---- the sheet */
+
+static bool label_ok(const uint8_t *label)
+{
+    int i = 0;
+    while (i < LABEL && label[i] >= 33 && label[i] <= 126)
+        i++;
+    if (i == 0)
+        return false;
+    for (; i < LABEL; i++)
+        if (label[i] != 0)
+            return false;
+    return true;
+}
+
+static bool label_repeats(const uint8_t *labels, int i)
+{
+    for (int j = 0; j < i; j++)
+        if (memcmp(labels + LABEL * j, labels + LABEL * i, LABEL) == 0)
+            return true;
+    return false;
+}
+
+/* Reads a sheet into a fresh working. Returns 0 or a refusal. */
+static int read_sheet(struct working *w, const uint8_t *sheet, size_t size)
+{
+    if (size == 0)
+        return 1;
+    if (sheet[0] > JOINTS)
+        return 2;
+
+    int n = sheet[0];
+    size_t at = 1;
+    if (size - at < (size_t)LABEL * n)
+        return 1;
+    for (int i = 0; i < n; i++)
+        if (!label_ok(sheet + at + LABEL * i) || label_repeats(sheet + at, i))
+            return 3;
+    at += (size_t)LABEL * n;
+
+    if (size - at < 2)
+        return 1;
+    size_t m = sheet[at] + 256u * sheet[at + 1];
+    at += 2;
+    if (size - at < ENTRY * m)
+        return 1;
+    if (size - at > ENTRY * m)
+        return 8;
+
+    memset(w, 0, sizeof *w);
+    w->n = n;
+    int before_a = -1, before_b = -1;
+    for (const uint8_t *e = sheet + at; e < sheet + size; e += ENTRY) {
+        int a = e[0], b = e[1], band = e[2];
+        if (a >= n || b >= n || a == b)
+            return 4;
+        if (band == 0 || band > 127)
+            return 5;
+        if (a < before_a || (a == before_a && b <= before_b))
+            return 6;
+        w->band[a][b] = band;
+        before_a = a;
+        before_b = b;
+    }
+    for (int a = 0; a < n; a++)
+        for (int b = 0; b < n; b++)
+            if (w->band[a][b] != 0 && w->band[b][a] == 0)
+                return 7;
+    return 0;
+}
+
+/* ---- lists */
+
+static void strike(struct working *w, int a, int b)
+{
+    w->band[a][b] = 0;
+    w->band[b][a] = 0;
+}
+
+static void strike_band(struct working *w, int a, int band)
+{
+    for (int b = 0; b < w->n; b++)
+        if (w->band[a][b] == band)
+            strike(w, a, b);
+}
+
+static int list_length(const struct working *w, int a)
+{
+    int length = 0;
+    for (int b = 0; b < w->n; b++)
+        if (w->band[a][b] != 0)
+            length++;
+    return length;
+}
+
+/* the lowest joint of the best band on a list that is not empty */
+static int first_on(const struct working *w, int a)
+{
+    int first = 0;
+    int best = 128;
+    for (int b = 0; b < w->n; b++)
+        if (w->band[a][b] != 0 && w->band[a][b] < best) {
+            best = w->band[a][b];
+            first = b;
+        }
+    return first;
+}
+
+static int worst_band(const struct working *w, int a)
+{
+    int worst = 0;
+    for (int b = 0; b < w->n; b++)
+        if (w->band[a][b] > worst)
+            worst = w->band[a][b];
+    return worst;
+}
+
+/* ---- phase one */
+
+/* A joint waits if its list is not empty and none of its proposals stands. */
+static bool waits(const struct working *w, int p)
+{
+    bool empty = true;
+    for (int q = 0; q < w->n; q++)
+        if (w->band[p][q] != 0) {
+            if (w->band[p][q] == w->asked[p])
+                return false;
+            empty = false;
+        }
+    return !empty;
+}
+
+static int lowest_waiting(const struct working *w)
+{
+    int p = 0;
+    while (p < w->n && !waits(w, p))
+        p++;
+    return p;
+}
+
+static int standing_at(const struct working *w, int q)
+{
+    int count = 0;
+    for (int p = 0; p < w->n; p++)
+        if (w->band[q][p] != 0 && w->band[p][q] == w->asked[p])
+            count++;
+    return count;
+}
+
+static void propose(struct working *w, int p, int q)
+{
+    int band = w->band[q][p];
+    w->proposals++;
+    w->received[q] = true;
+    for (int r = 0; r < w->n; r++)
+        if (w->band[q][r] > band)
+            strike(w, q, r);
+    if (standing_at(w, q) >= 2)
+        strike_band(w, q, band);
+}
+
+/* p proposes to all of its best band. A proposal at q strikes pairs of q alone, so the rest of the band is still there
+ * when its turn comes. */
+static void step(struct working *w, int p)
+{
+    int best = w->band[p][first_on(w, p)];
+    w->asked[p] = best;
+    for (int q = 0; q < w->n; q++)
+        if (w->band[p][q] == best)
+            propose(w, p, q);
+}
+
+static int phase_one(struct working *w, struct choices *c)
+{
+    for (;;) {
+        int p = lowest_waiting(w);
+        if (p == w->n)
+            return 0;
+        if (c->used < c->size) {
+            p = c->joints[c->used];
+            if (p >= w->n || !waits(w, p))
+                return 11;
+            c->used++;
+        }
+        step(w, p);
+    }
+}
+
+static bool received_and_emptied(const struct working *w)
+{
+    for (int a = 0; a < w->n; a++)
+        if (w->received[a] && list_length(w, a) == 0)
+            return true;
+    return false;
+}
+
+/* ---- phase two */
+
+static int lowest_longer(const struct working *w)
+{
+    int x = 0;
+    while (x < w->n && list_length(w, x) < 2)
+        x++;
+    return x;
+}
+
+/* Strikes v's worst band from v's list and runs phase one afresh. Does it leave no list empty but those set aside? */
+static bool trial(struct working *t, const struct working *w, const bool *set_aside, int v)
+{
+    struct choices none = {NULL, 0, 0};
+    *t = *w;
+    memset(t->asked, 0, sizeof t->asked);
+    strike_band(t, v, worst_band(t, v));
+    phase_one(t, &none);
+    for (int a = 0; a < t->n; a++)
+        if (!set_aside[a] && list_length(t, a) == 0)
+            return false;
+    return true;
+}
+
+static bool cut(struct working *w, const bool *set_aside, int x)
+{
+    struct working t;
+    w->cuts++;
+    if (!trial(&t, w, set_aside, first_on(w, x)) && !trial(&t, w, set_aside, x))
+        return false;
+    memcpy(w->band, t.band, sizeof w->band);
+    return true;
+}
+
+/* Returns 0 or a refusal. */
+static int phase_two(struct working *w, struct choices *c, int *verdict)
+{
+    bool set_aside[JOINTS];
+    for (int a = 0; a < w->n; a++)
+        set_aside[a] = list_length(w, a) == 0;
+    for (;;) {
+        int x = lowest_longer(w);
+        if (x == w->n) {
+            *verdict = PAIRED;
+            return 0;
+        }
+        if (c->used < c->size) {
+            x = c->joints[c->used];
+            if (x >= w->n || list_length(w, x) < 2)
+                return 12;
+            c->used++;
+        }
+        if (!cut(w, set_aside, x)) {
+            *verdict = NONE_TWO;
+            return 0;
+        }
+    }
+}
+
+/* ---- the calls */
+
+static int whole_working(struct working *w, struct choices *c, int *verdict)
+{
+    int refusal = phase_one(w, c);
+    if (refusal != 0)
+        return refusal;
+    if (received_and_emptied(w))
+        *verdict = NONE_ONE;
+    else
+        refusal = phase_two(w, c, verdict);
+    if (refusal == 0 && c->used < c->size)
+        refusal = 13;
+    return refusal;
+}
+
+uint32_t plain_settle(const uint8_t *sheet, size_t sheet_size, const uint8_t *choices, size_t choices_size,
+                      uint8_t *out, size_t out_size)
+{
+    struct working w;
+    struct choices c = {choices, choices_size, 0};
+    int verdict = 0;
+    int refusal = read_sheet(&w, sheet, sheet_size);
+    if (refusal == 0 && out_size < (size_t)w.n)
+        refusal = 9;
+    if (refusal == 0)
+        refusal = whole_working(&w, &c, &verdict);
+    if (refusal != 0)
+        return refusal;
+    if (verdict != PAIRED)
+        return 256u * verdict;
+
+    uint32_t paired = 0;
+    for (int a = 0; a < w.n; a++) {
+        out[a] = ALONE;
+        for (int b = 0; b < w.n; b++)
+            if (w.band[a][b] != 0) {
+                out[a] = b;
+                paired++;
+                break;
+            }
+    }
+    return 256u * PAIRED + 65536u * (paired / 2);
+}
+
+uint64_t plain_counts(const uint8_t *sheet, size_t sheet_size, const uint8_t *choices, size_t choices_size)
+{
+    struct working w;
+    struct choices c = {choices, choices_size, 0};
+    int verdict = 0;
+    int refusal = read_sheet(&w, sheet, sheet_size);
+    if (refusal != 0)
+        return refusal;
+    refusal = whole_working(&w, &c, &verdict);
+    return refusal + 65536u * (uint64_t)w.proposals + ((uint64_t)w.cuts << 32);
+}
