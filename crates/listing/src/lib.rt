@@ -22,7 +22,7 @@ fn room(out: [u8; 4400])
 {}
 
 // A pairing of n joints, by their labels on the sheet.
-pub fn write_pairing(sheet: &[u8], n: usize, partners: &[u8], out: &mut [u8; 4400]) -> usize
+fn write_pairing(sheet: &[u8], n: usize, partners: &[u8], out: &mut [u8; 4400]) -> usize
     requires { ⌜ (n ≤ 128) × ((1 + 16 * n ≤ length (now sheet)) × (n ≤ length (now partners))) ⌝ }
     requires { ⌜ ((i : ℕ) → i < n → partner (now partners) i ≢ 255 → partner (now partners) i < n) ⌝ }
     ensures { λ r. ⌜ r ≡ length (pairingText (now (sheet .entry)) n (take n (now (partners .entry)))) ⌝ }
@@ -38,7 +38,7 @@ pub fn write_pairing(sheet: &[u8], n: usize, partners: &[u8], out: &mut [u8; 440
 }
 
 // No pairing, with the phase.
-pub fn write_none(phase: u8, out: &mut [u8; 4400]) -> usize
+fn write_none(phase: u8, out: &mut [u8; 4400]) -> usize
     ensures { λ r. ⌜ r ≡ length (noneText phase) ⌝ }
     ensures { λ r. ⌜ now (out .exit) ≡ over (noneText phase) (now (out .entry)) ⌝ }
 {
@@ -47,7 +47,7 @@ pub fn write_none(phase: u8, out: &mut [u8; 4400]) -> usize
 }
 
 // A refusal, with its number.
-pub fn write_refused(number: u8, out: &mut [u8; 4400]) -> usize
+fn write_refused(number: u8, out: &mut [u8; 4400]) -> usize
     ensures { λ r. ⌜ r ≡ length (refusedText number) ⌝ }
     ensures { λ r. ⌜ now (out .exit) ≡ over (refusedText number) (now (out .entry)) ⌝ }
 {

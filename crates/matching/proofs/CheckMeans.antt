@@ -12,7 +12,7 @@ use Rattle.sheet.specs.Refusals.{sheetFault}
 use Rattle.sheet.specs.Square.{at, squareOf}
 use Rattle.sheet.proofs.PromiseKept.{accepted-square}
 use Rattle.matching.specs.declared.Checked.the-variants.{Refused, Holds, Blocked}
-use Rattle.matching.specs.Matchings.{partner, isMatching, blockingPair, isSuperStable}
+use Rattle.matching.specs.Matchings.{partner, isMatching, blockingPair}
 use Rattle.matching.specs.Plain.{Matching, SuperStable, LowestBlocking}
 use Rattle.matching.specs.Answers.{verdictOf, offerOf, checkedOr, checkOf}
 use Rattle.matching.proofs.TestParts.{never, not-so}

@@ -6,7 +6,6 @@ use mathlib.Core.List.{List}
 use mathlib.Core.Option.{Option, none, some}
 use Prim.Native.Nat.{ℕ, zero, suc, _+_, _≤_, _<_}
 use native.Mathlib.Omega.{arith}
-use lib.Dec.{ltb}
 use borrow.Author.Tests.{lt-ltb, le-ltb}
 use Rattle.sheet.specs.Square.{at}
 use Rattle.matching.specs.Matchings.{partner, blocks, pairNumber, blockerFrom, blocker, blockingFrom, blockingPair}

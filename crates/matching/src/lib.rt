@@ -15,7 +15,7 @@ pub enum Checked {
 }
 
 // The number of the pair of a and b, a below b.
-pub fn pair_number(a: usize, b: usize) -> usize
+fn pair_number(a: usize, b: usize) -> usize
     requires { ⌜ (a < b) × (b < 128) ⌝ }
     ensures { λ r. ⌜ r ≡ pairNumber a b ⌝ }
 {
@@ -55,7 +55,7 @@ fn is_placed(joints: usize, bands: &[[u8; 128]; 128], pairing: &[u8], a: usize) 
 }
 
 // As many bytes as joints, each joint unpaired or paired with one that it lists and that has it as its partner.
-pub fn is_matching(joints: usize, bands: &[[u8; 128]; 128], pairing: &[u8]) -> bool
+fn is_matching(joints: usize, bands: &[[u8; 128]; 128], pairing: &[u8]) -> bool
     requires { ⌜ joints ≤ 128 ⌝ }
     ensures { λ r. ⌜ r ≡ isMatching joints (now (bands .entry)) (now (pairing .entry)) ⌝ }
 {
@@ -129,7 +129,7 @@ fn blocker(joints: usize, bands: &[[u8; 128]; 128], pairing: &[u8], b: usize) ->
 }
 
 // A matching holds, or is blocked by the lowest pair that blocks it.
-pub fn verdict(joints: usize, bands: &[[u8; 128]; 128], pairing: &[u8]) -> Checked
+fn verdict(joints: usize, bands: &[[u8; 128]; 128], pairing: &[u8]) -> Checked
     requires { ⌜ (joints ≤ 128) × (isMatching joints (now bands) (now pairing) ≡ true) ⌝ }
     ensures { λ r. ⌜ r ≡ verdictOf (blockingPair joints (now (bands .entry)) (now (pairing .entry))) ⌝ }
 {
@@ -145,7 +145,7 @@ pub fn verdict(joints: usize, bands: &[[u8; 128]; 128], pairing: &[u8]) -> Check
 }
 
 // The answer to an offered pairing over an accepted sheet's joints and square.
-pub fn offer(joints: usize, bands: &[[u8; 128]; 128], pairing: &[u8]) -> Checked
+fn offer(joints: usize, bands: &[[u8; 128]; 128], pairing: &[u8]) -> Checked
     requires { ⌜ joints ≤ 128 ⌝ }
     ensures { λ r. ⌜ r ≡ offerOf joints (now (bands .entry)) (now (pairing .entry)) ⌝ }
 {

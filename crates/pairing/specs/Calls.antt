@@ -8,17 +8,16 @@ use Rattle.sheet.specs.Format.{joints, rankCount}
 use Rattle.sheet.specs.Refusals.{firstOf, when, sheetFault}
 use Rattle.sheet.specs.Square.{squareOf}
 use Rattle.roommates.specs.Lists.{Square}
-use Rattle.roommates.specs.PhaseTwo as W
 use Rattle.roommates.specs.Working.{settles, shortens, pairingOf, pairCount, entryCount, listBytes}
-use Rattle.pairing.specs.declared.Phase.{Phase}
-use Rattle.pairing.specs.declared.Phase.the-variants as P
 use Rattle.pairing.specs.declared.End.{End}
-use Rattle.pairing.specs.declared.End.the-variants as E
 use Rattle.pairing.specs.declared.Settled.{Settled}
-use Rattle.pairing.specs.declared.Settled.the-variants as S
 use Rattle.pairing.specs.declared.Shortened.{Shortened}
-use Rattle.pairing.specs.declared.Shortened.the-variants as L
 use Rattle.pairing.specs.declared.Counts.{Counts}
+use Rattle.roommates.specs.PhaseTwo as W
+use Rattle.pairing.specs.declared.Phase.the-variants as P
+use Rattle.pairing.specs.declared.End.the-variants as E
+use Rattle.pairing.specs.declared.Settled.the-variants as S
+use Rattle.pairing.specs.declared.Shortened.the-variants as L
 
 -- the working of n joints' lists: settle's if whole, else shorten's
 unfoldable pub workOf : Bool → ℕ → Square → List ℕ → W.End

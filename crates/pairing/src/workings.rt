@@ -4,7 +4,7 @@ use phases::cuts::phase_two;
 use phases::proposals::phase_one;
 use phases::proposals::some_emptied;
 ghost use mathlib.Core.Path.{_≡_};
-ghost use Prim.Native.Nat.{_≤_, _<_};
+ghost use Prim.Native.Nat.{_≤_};
 ghost use Rattle.pairing.specs.Workings.{WorkedAs, RestIs};
 ghost use Rattle.pairing.specs.Calls.{workOf};
 
@@ -37,7 +37,7 @@ fn go_on(
 }
 
 // The working of n joints' lists, settle's if `whole`, else shorten's: the lists at its end, and how it ended.
-pub fn working(
+pub(crate) fn working(
     n: usize,
     bands: [[u8; 128]; 128],
     choices: &[u8],

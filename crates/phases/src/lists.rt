@@ -6,7 +6,7 @@ ghost use lib.ListN.{getD};
 ghost use Rattle.roommates.specs.Lists.{listLength, betterBand, bestBand, worstBand, bandSize, firstOn, lowest};
 ghost use Rattle.roommates.specs.PhaseOne.{listWaits};
 
-pub fn list_length(n: usize, row: &[u8; 128]) -> u8
+pub(crate) fn list_length(n: usize, row: &[u8; 128]) -> u8
     requires { ⌜ n ≤ 128 ⌝ }
     ensures { λ r. ⌜ r ≡ listLength n (now (row .entry)) ⌝ }
 {
@@ -34,7 +34,7 @@ fn better(k: u8, b: u8) -> u8
     if b < k { b } else { k }
 }
 
-pub fn best_band(n: usize, row: &[u8; 128]) -> u8
+pub(crate) fn best_band(n: usize, row: &[u8; 128]) -> u8
     requires { ⌜ n ≤ 128 ⌝ }
     ensures { λ r. ⌜ r ≡ bestBand n (now (row .entry)) ⌝ }
 {
@@ -47,7 +47,7 @@ pub fn best_band(n: usize, row: &[u8; 128]) -> u8
     best
 }
 
-pub fn worst_band(n: usize, row: &[u8; 128]) -> u8
+pub(crate) fn worst_band(n: usize, row: &[u8; 128]) -> u8
     requires { ⌜ n ≤ 128 ⌝ }
     ensures { λ r. ⌜ r ≡ worstBand n (now (row .entry)) ⌝ }
 {
@@ -62,7 +62,7 @@ pub fn worst_band(n: usize, row: &[u8; 128]) -> u8
     worst
 }
 
-pub fn band_size(n: usize, k: u8, row: &[u8; 128]) -> u8
+pub(crate) fn band_size(n: usize, k: u8, row: &[u8; 128]) -> u8
     requires { ⌜ n ≤ 128 ⌝ }
     ensures { λ r. ⌜ r ≡ bandSize n k (now (row .entry)) ⌝ }
 {
@@ -92,7 +92,7 @@ fn first_in(n: usize, k: u8, row: &[u8; 128]) -> usize
     n
 }
 
-pub fn first_on(n: usize, row: &[u8; 128]) -> usize
+pub(crate) fn first_on(n: usize, row: &[u8; 128]) -> usize
     requires { ⌜ n ≤ 128 ⌝ }
     ensures { λ r. ⌜ r ≡ firstOn n (now (row .entry)) ⌝ }
 {
@@ -100,7 +100,7 @@ pub fn first_on(n: usize, row: &[u8; 128]) -> usize
 }
 
 // Does a joint with this list, which last proposed to band k, wait? One walk, since this is the phases' busiest loop.
-pub fn list_waits(n: usize, k: u8, row: &[u8; 128]) -> bool
+pub(crate) fn list_waits(n: usize, k: u8, row: &[u8; 128]) -> bool
     requires { ⌜ n ≤ 128 ⌝ }
     ensures { λ r. ⌜ r ≡ listWaits n k (now (row .entry)) ⌝ }
 {

@@ -62,7 +62,7 @@ fn receive_all(n: usize, list: &[u8; 128], k: u8, received: &mut [u8; 128])
 }
 
 // p's step. The list is copied, since striking changes it.
-pub fn step(
+fn step(
     n: usize,
     bands: &mut [[u8; 128]; 128],
     reach: &mut [u8; 128],
@@ -83,7 +83,7 @@ pub fn step(
 }
 
 // the i-th choice, or the lowest joint allowed where choices have run out
-pub fn chosen(choices: &[u8], i: usize, low: usize) -> usize
+pub(crate) fn chosen(choices: &[u8], i: usize, low: usize) -> usize
     ensures { λ r. ⌜ r ≡ getD (now (choices .entry)) i low ⌝ }
 {
     if i < choices.len() {

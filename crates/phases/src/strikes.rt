@@ -9,7 +9,7 @@ ghost use Rattle.roommates.specs.PhaseOne.{listWaits, stands, standingAt};
 ghost use Rattle.roommates.specs.PhaseTwo.{longer};
 ghost use Rattle.phases.specs.Codes.{hits};
 
-pub fn lowest_waiting(n: usize, bands: &[[u8; 128]; 128], reach: &[u8; 128]) -> usize
+pub(crate) fn lowest_waiting(n: usize, bands: &[[u8; 128]; 128], reach: &[u8; 128]) -> usize
     requires { ⌜ n ≤ 128 ⌝ }
     ensures { λ r. ⌜ r ≡ lowest n (λ p. listWaits n (getD (now (reach .entry)) p 0) (row (now (bands .entry)) p)) ⌝ }
 {
@@ -23,7 +23,7 @@ pub fn lowest_waiting(n: usize, bands: &[[u8; 128]; 128], reach: &[u8; 128]) -> 
     n
 }
 
-pub fn lowest_longer(n: usize, bands: &[[u8; 128]; 128]) -> usize
+pub(crate) fn lowest_longer(n: usize, bands: &[[u8; 128]; 128]) -> usize
     requires { ⌜ n ≤ 128 ⌝ }
     ensures { λ r. ⌜ r ≡ lowest n (λ x. longer n (now (bands .entry)) x) ⌝ }
 {
@@ -47,7 +47,7 @@ fn stands_in(k: u8, b: u8) -> bool
     b == k
 }
 
-pub fn standing_at(n: usize, bands: &[[u8; 128]; 128], reach: &[u8; 128], q: usize) -> u8
+pub(crate) fn standing_at(n: usize, bands: &[[u8; 128]; 128], reach: &[u8; 128], q: usize) -> u8
     requires { ⌜ (n ≤ 128) × (q < 128) ⌝ }
     ensures { λ r. ⌜ r ≡ standingAt n (now (bands .entry)) (now (reach .entry)) q ⌝ }
 {
@@ -79,7 +79,7 @@ fn strike_pair(bands: &mut [[u8; 128]; 128], q: usize, i: usize)
     bands[i][q] = 0;
 }
 
-pub fn strike(n: usize, bands: &mut [[u8; 128]; 128], q: usize, k: u8, whole: bool)
+pub(crate) fn strike(n: usize, bands: &mut [[u8; 128]; 128], q: usize, k: u8, whole: bool)
     requires { ⌜ (n ≤ 128) × (q < 128) ⌝ }
     ensures { λ _. ⌜ now (bands .exit) ≡ strikeIf (λ b. hits whole k b) n (now (bands .entry)) q ⌝ }
 {

@@ -7,7 +7,7 @@ use pairing::Settled;
 use pairing::Shortened;
 use pairing::calls::settle;
 use pairing::calls::shorten;
-ghost use Prim.Native.Nat.{_<_, _≤_};
+ghost use Prim.Native.Nat.{_<_};
 
 pub const NONE_ONE: u32 = 101;
 

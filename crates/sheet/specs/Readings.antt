@@ -1,16 +1,14 @@
 -- What reading answers, case by case.
-use mathlib.Core.Bool.{Bool, true, false, cond}
 use mathlib.Core.List.{List}
-use Prim.Native.Nat.{ℕ, zero, suc, _+_, _*_}
-use lib.Dec.{eqb}
+use Prim.Native.Nat.{ℕ, zero, suc, _*_}
 use Rattle.sheet.specs.declared.Labels.{Labels}
-use Rattle.sheet.specs.declared.Labels.the-variants as L
 use Rattle.sheet.specs.declared.Rankings.{Rankings}
-use Rattle.sheet.specs.declared.Rankings.the-variants as R
 use Rattle.sheet.specs.declared.Reading.{Reading}
-use Rattle.sheet.specs.declared.Reading.the-variants as S
-use Rattle.sheet.specs.Format.{joints, countStart, rankCount, rankStart}
+use Rattle.sheet.specs.Format.{joints, rankCount, rankStart}
 use Rattle.sheet.specs.Refusals.{labelsFault, rankingsFault, sheetFault}
+use Rattle.sheet.specs.declared.Labels.the-variants as L
+use Rattle.sheet.specs.declared.Rankings.the-variants as R
+use Rattle.sheet.specs.declared.Reading.the-variants as S
 
 -- the labels' section: its length in bytes, or its refusal
 abbrev pub labelsOr : ℕ → ℕ → Labels

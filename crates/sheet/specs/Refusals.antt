@@ -1,9 +1,9 @@
 -- Refusals 1 to 8, in the order of document 01. A fault is the number of a refusal, 0 for none.
 use mathlib.Core.Bool.{Bool, true, false, _&&_, _||_, not, cond}
 use mathlib.Core.List.{List, [], _∷_}
-use Prim.Native.Nat.{ℕ, zero, suc, _+_, _*_}
+use Prim.Native.Nat.{ℕ, zero, suc, _*_}
 use lib.Dec.{eqb, ltb, leb}
-use lib.ListN.{length, getD, drop}
+use lib.ListN.{length, drop}
 use Rattle.sheet.specs.declared.Entry.{Entry}
 use Rattle.sheet.specs.Format.{joints, labelsPart, rankCount, rankStart, rankingsPart, labelIn, entryIn, entriesFrom, bandIn}
 

@@ -4,7 +4,7 @@ use Prim.Native.Nat.{_<_, _≤_, _-_}
 use native.Mathlib.Nat.{sub-zero}
 use native.Mathlib.Omega.{arith}
 use borrow.Author.Needs.{needs}
-use Rattle.matching.specs.Matchings.{pairNumber, blocker, blockingFrom, blockingPair}
+use Rattle.matching.specs.Matchings.{blocker, blockingFrom, blockingPair}
 use Rattle.matching.proofs.Turns.{blocking-goes-on, blocking-stops, blocking-ends}
 use Rattle.matching.proofs.PairNumbers.{pairNumber-small}
 use Rattle.matching.proofs.verdict.Statement.{statement}
