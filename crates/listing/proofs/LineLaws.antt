@@ -11,7 +11,8 @@ use lib.ListN.{length, drop, length-append, length-take}
 use borrow.Author.Tests.{eq-eqb}
 use Rattle.sheet.specs.Format.{labelOf}
 use Rattle.sheet.specs.Refusals.{visibleRun}
-use Rattle.sheet.proofs.Cases.{case, eq-ne, and-true}
+use Rattle.base.proofs.Cases.{case, eq-ne}
+use Rattle.base.proofs.Tests.{and-true}
 use Rattle.listing.specs.Written.{Wrote}
 use Rattle.listing.specs.Text.{partner, alone, lower, labelText, labelLine, pairLine, pairPart, alonePart, linesBelow}
 use Rattle.listing.proofs.WrittenLaws.{wrote-append}

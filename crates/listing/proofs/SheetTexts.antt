@@ -12,7 +12,7 @@ use Rattle.sheet.specs.Square.{squareOf}
 use Rattle.sheet.proofs.Accepted.{Accepted, accepted}
 use Rattle.roommates.specs.Lists.{Square, row, listLength}
 use Rattle.roommates.specs.Working.{partnerOn, pairingOf}
-use Rattle.sheet.proofs.Cases.{case, lt-ge}
+use Rattle.base.proofs.Cases.{case, lt-ge}
 use Rattle.roommates.proofs.PairsWritten.{partner-none, partner-some, pairing-length, pairing-at}
 use Rattle.pairing.specs.declared.Phase.{Phase}
 use Rattle.pairing.specs.declared.End.the-variants as E

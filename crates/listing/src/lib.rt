@@ -2,12 +2,12 @@
 mod lines;
 mod page;
 
+use base::wide;
 use page::write_number_line;
 use pairing::End;
 use pairing::Phase;
 use pairing::Settled;
 use pairing::calls::settle;
-use sheet::wide;
 ghost use mathlib.Core.Path.{_≡_};
 ghost use mathlib.Core.Logic.{_≢_};
 ghost use Prim.Native.Nat.{ℕ, _+_, _*_, _<_, _≤_};

@@ -1,8 +1,8 @@
 // The lines of labels: a pair's, an unpaired joint's, and those of all joints in order.
 use crate::page::put;
 use crate::page::write_word;
+use base::wide;
 use sheet::label_section::visible_run;
-use sheet::wide;
 ghost use mathlib.Core.Path.{_≡_};
 ghost use mathlib.Core.Logic.{_≢_};
 ghost use Prim.Native.Nat.{ℕ, _+_, _*_, _<_, _≤_};

@@ -9,8 +9,8 @@ use borrow.Author.Tests.{eqb-true, eqb-false, ltb-true, leb-true, eq-eqb, ne-eqb
 use Rattle.sheet.specs.Square.{at}
 use Rattle.matching.specs.Matchings.{partner, welcomes, isApart, blocks}
 use Rattle.matching.specs.Plain.{Welcomes, Blocks}
-use Rattle.sheet.proofs.Cases.{case, and-true, or-true}
-use Rattle.matching.proofs.TestParts.{or-right}
+use Rattle.base.proofs.Cases.{case}
+use Rattle.base.proofs.Tests.{and-true, or-true, or-right}
 
 module _ (t : List (List ℕ)) (m : List ℕ) where
   welcome : (a b : ℕ) → welcomes t m a b ≡ true → Welcomes (at t) (partner m) a b

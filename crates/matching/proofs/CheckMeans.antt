@@ -15,7 +15,7 @@ use Rattle.matching.specs.declared.Checked.the-variants.{Refused, Holds,
 use Rattle.matching.specs.Matchings.{partner, isMatching, blockingPair}
 use Rattle.matching.specs.Plain.{Matching, SuperStable, LowestBlocking}
 use Rattle.matching.specs.Answers.{verdictOf, offerOf, checkedOr, checkOf}
-use Rattle.matching.proofs.TestParts.{never, not-so}
+use Rattle.base.proofs.Tests.{never, not-so}
 use Rattle.matching.proofs.MatchingTest.{isMatching-means}
 use Rattle.matching.proofs.LowestPair.{blockingPair-lowest}
 use Rattle.matching.proofs.SuperStableTest.{isSuperStable-means, super-stable-parts}

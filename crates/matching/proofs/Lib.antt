@@ -1,5 +1,4 @@
 -- That the tests of specs/ mean the plain statement, and the laws that the functions' proofs cite.
-pub mod TestParts
 pub mod PairNumbers
 pub mod MatchingTest
 pub mod BlockingTest

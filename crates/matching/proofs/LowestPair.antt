@@ -10,8 +10,8 @@ use borrow.Author.Tests.{lt-ltb, le-ltb}
 use Rattle.sheet.specs.Square.{at}
 use Rattle.matching.specs.Matchings.{partner, blocks, pairNumber, blockerFrom, blocker, blockingFrom, blockingPair}
 use Rattle.matching.specs.Plain.{Blocks, LowestBlocking}
-use Rattle.sheet.proofs.Cases.{case, both-ways, lt-ge, eq-ne}
-use Rattle.matching.proofs.TestParts.{never}
+use Rattle.base.proofs.Cases.{case, both-ways, lt-ge, eq-ne}
+use Rattle.base.proofs.Tests.{never}
 use Rattle.matching.proofs.PairNumbers.{pairNumber-rises, pairNumber-lower}
 use Rattle.matching.proofs.BlockingTest.{blocks-means}
 

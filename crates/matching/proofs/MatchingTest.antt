@@ -11,8 +11,8 @@ use borrow.Author.Tests.{eqb-true, ltb-true, eq-eqb, lt-ltb}
 use Rattle.sheet.specs.Square.{at}
 use Rattle.matching.specs.Matchings.{partner, isPaired, isPlaced, allPlaced, isMatching}
 use Rattle.matching.specs.Plain.{Paired, Matching}
-use Rattle.sheet.proofs.Cases.{case, eq-ne, and-true, or-true}
-use Rattle.matching.proofs.TestParts.{or-right, cond-both}
+use Rattle.base.proofs.Cases.{case, eq-ne}
+use Rattle.base.proofs.Tests.{and-true, or-true, or-right, cond-both}
 
 module _ (n : ℕ) (t : List (List ℕ)) (m : List ℕ) where
   paired : (a : ℕ) → isPaired n t m a (partner m a) ≡ true → Paired n (at t) (partner m) a

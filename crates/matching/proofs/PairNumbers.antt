@@ -5,7 +5,7 @@ use native.Mathlib.Nat.{zero-add, mul-suc, suc-mul}
 use native.Mathlib.Numerals.{sub-one}
 use native.Mathlib.Omega.{arith}
 use Rattle.matching.specs.Matchings.{pairNumber}
-use Rattle.sheet.proofs.Cases.{case, lt-ge}
+use Rattle.base.proofs.Cases.{case, lt-ge}
 
 -- how many pairs have their higher joint below b
 pub tri : ℕ → ℕ

@@ -10,8 +10,8 @@ use lib.ListN.{length}
 use Rattle.sheet.specs.Square.{at, SquarePromise}
 use Rattle.matching.specs.Matchings.{partner, isMatching, blockingPair, isNone, isSuperStable}
 use Rattle.matching.specs.Plain.{Matching, Welcomes, Blocks, Prefers, SuperStable}
-use Rattle.sheet.proofs.Cases.{case, lt-ge, eq-ne}
-use Rattle.matching.proofs.TestParts.{cond-both}
+use Rattle.base.proofs.Cases.{case, lt-ge, eq-ne}
+use Rattle.base.proofs.Tests.{cond-both}
 use Rattle.matching.proofs.MatchingTest.{isMatching-means}
 use Rattle.matching.proofs.LowestPair.{blockingPair-none}
 

@@ -12,7 +12,7 @@ use lib.ListN.{length, getD}
 use borrow.Author.Tests.{lt-ltb, le-ltb}
 use Rattle.matching.specs.Matchings.{partner, isPlaced, allPlaced, isMatching, blocks, pairNumber, blockerFrom, blocker, blockingFrom}
 use Rattle.matching.proofs.MatchingTest.{isMatching-means}
-use Rattle.sheet.proofs.Cases.{case}
+use Rattle.base.proofs.Cases.{case}
 
 -- a byte that is there is the same whatever stands for a missing one
 pub there : (m : List ℕ) (a : ℕ) → a < length m → getD m a 0 ≡ partner m a

@@ -26,7 +26,7 @@ fn partner(pairing: &[u8], a: usize) -> usize
     requires { ⌜ a < length (now pairing) ⌝ }
     ensures { λ r. ⌜ r ≡ partner (now (pairing .entry)) a ⌝ }
 {
-    sheet::wide(pairing[a])
+    base::wide(pairing[a])
 }
 
 // a has the partner p: a joint that a lists and whose partner is a.

@@ -9,11 +9,13 @@ use lib.Dec.{ltb, eqb}
 use lib.ListN.{length}
 use borrow.Author.Tests.{lt-ltb, le-ltb, ltb-true, ltb-false}
 use Rattle.sheet.specs.Format.{joints, rankCount, labelsPart, rankStart, rankingsPart, entryIn}
-use Rattle.sheet.specs.Refusals.{when, firstOf, anyBelow, labelBad, labelsFault, outside, noBand, misplaced, entryFault, entriesFault, unreturned, rankingsFault, sheetFault}
+use Rattle.sheet.specs.Refusals.{firstOf, labelBad, labelsFault, outside, noBand, misplaced, entryFault, entriesFault, unreturned, rankingsFault, sheetFault}
+use Rattle.base.specs.Faults.{when}
+use Rattle.base.specs.Below.{anyBelow}
 use Rattle.roommates.specs.Lists.{Square}
 use Rattle.roommates.specs.PhaseTwo.{End}
 use Rattle.roommates.specs.Working.{settles, shortens}
-use Rattle.sheet.proofs.Cases.{case}
+use Rattle.base.proofs.Cases.{case}
 use Rattle.roommates.proofs.Sound.{Sound}
 use Rattle.roommates.proofs.PhaseTwoRuns.{LeftOver, TwoEnd, all-short, both-fail, two-refused}
 use Rattle.roommates.proofs.Workings.{SettleEnd, refused-one, emptied-one, on-to-two, ShortenEnd, refused-short, shortened, settles-ends, shortens-ends}

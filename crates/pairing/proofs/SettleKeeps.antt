@@ -12,7 +12,7 @@ use Rattle.sheet.proofs.PromiseKept.{accepted-square}
 use Rattle.matching.specs.declared.Checked.the-variants as C
 use Rattle.matching.specs.Matchings.{isSuperStable}
 use Rattle.matching.specs.Answers.{checkOf}
-use Rattle.matching.proofs.TestParts.{never}
+use Rattle.base.proofs.Tests.{never}
 use Rattle.matching.proofs.SuperStableTest.{isSuperStable-means}
 use Rattle.matching.proofs.CheckMeans.{check-holds}
 use Rattle.roommates.specs.PhaseTwo as W

@@ -13,7 +13,7 @@ use Rattle.sheet.proofs.PromiseKept.{accepted-square}
 use Rattle.roommates.specs.Lists.{Square}
 use Rattle.roommates.specs.PhaseTwo as W
 use Rattle.roommates.specs.Working.{shortens, entryCount, listBytes}
-use Rattle.sheet.proofs.Cases.{case}
+use Rattle.base.proofs.Cases.{case}
 use Rattle.roommates.proofs.Sound.{promise-sound}
 use Rattle.roommates.proofs.EntriesListed.{all-listed}
 use Rattle.pairing.proofs.LawsCalls.{bytes-length}

@@ -3,11 +3,12 @@ use mathlib.Core.Path.{_≡_, refl}
 use mathlib.Core.List.{[], _∷_, _++_}
 use lib.ListN.{replicate}
 use Rattle.sheet.specs.Format.{entryIn, entriesFrom, bandIn}
-use Rattle.sheet.specs.Refusals.{sheetFault, anyBelow, visibleRun, allZero, labelOk, sameBytes, repeats, labelBad, labelsFault, entryFault, entriesFault, unreturned, rankingsFault}
+use Rattle.sheet.specs.Refusals.{sheetFault, visibleRun, allZero, labelOk, sameBytes, repeats, labelBad, labelsFault, entryFault, entriesFault, unreturned, rankingsFault}
+use Rattle.base.specs.Below.{anyBelow, lowestFrom}
 use Rattle.sheet.specs.Square.{squareUpTo}
 use Rattle.matching.specs.Matchings.{isPaired, isPlaced, allPlaced, isMatching, welcomes, isApart, blocks, blockerFrom, blocker, blockingFrom, blockingPair}
 use Rattle.matching.specs.Answers.{offerOf}
-use Rattle.roommates.specs.Lists.{listLength, bestBand, worstBand, bandSize, lowestFrom, firstOn, strikeIf}
+use Rattle.roommates.specs.Lists.{listLength, bestBand, worstBand, bandSize, firstOn, strikeIf}
 use Rattle.roommates.specs.PhaseOne.{anyStands, listWaits, standingAt, proposed, proposeAll, receiveAll, step, phaseOneFrom, someEmptied}
 use Rattle.roommates.specs.PhaseTwo.{trial, noneEmptied, cutAt, phaseTwoFrom}
 use Rattle.roommates.specs.Working.{afterOne, settles, partnerOn, partnersUpTo, pairedJoints}

@@ -5,7 +5,8 @@ use Prim.Native.Nat.{ℕ, zero, suc, _+_, _*_}
 use lib.Dec.{ltb}
 use lib.ListN.{length, drop}
 use Rattle.sheet.specs.Format.{joints, rankCount}
-use Rattle.sheet.specs.Refusals.{firstOf, when, sheetFault}
+use Rattle.sheet.specs.Refusals.{firstOf, sheetFault}
+use Rattle.base.specs.Faults.{when}
 use Rattle.sheet.specs.Square.{squareOf}
 use Rattle.roommates.specs.Lists.{Square}
 use Rattle.roommates.specs.Working.{settles, shortens, pairingOf, pairCount, entryCount, listBytes}

@@ -8,8 +8,9 @@ use native.Mathlib.Omega.{arith}
 use lib.Dec.{eqb, ltb}
 use lib.ListN.{getD}
 use borrow.Author.Tests.{eq-eqb, eqb-true}
-use Rattle.roommates.specs.Lists.{betterBand, bestBand, lowestFrom, firstOn}
-use Rattle.sheet.proofs.Cases.{both-ways, case}
+use Rattle.roommates.specs.Lists.{betterBand, bestBand, firstOn}
+use Rattle.base.proofs.Lowest.{lowest-below}
+use Rattle.base.proofs.Cases.{both-ways, case}
 
 -- the better of two bands is one of them
 better-is : (k b : ℕ) → (betterBand k b ≡ b) ⊎ (betterBand k b ≡ k)
@@ -28,18 +29,10 @@ best-at (suc n) l =
     (λ e. (suc n, omega arith, sym e))
     (λ e. (rest .0, omega arith, rest .2 ∙ sym e))
 
-lowest-below : (f i j : ℕ) (test : ℕ → Bool) → i ≤ j → j < i + f → test j ≡ true → lowestFrom f i test ≤ j
-unfolding lowestFrom
-lowest-below zero i j test h g t = omega arith
-lowest-below (suc f) i j test h g t =
-    case (both-ways (test i))
-    (λ e. rw e h)
-    (λ e. let other : i ≡ j → ⊥ = λ q. true≢false (sym t ∙ ap test (sym q) ∙ e) in rw e (lowest-below f (suc i) j test (omega arith) (omega arith) t))
-
 pub first-inside : (n : ℕ) (l : List ℕ) → 0 < n → firstOn n l < n
 unfolding firstOn
 first-inside zero l h = omega arith
 first-inside (suc n) l h =
     let at = best-at n l in
-    let low = lowest-below (suc n) 0 (at .0) (λ b. eqb (getD l b 0) (bestBand (suc n) l)) (omega arith) (omega (arith, at .1)) (eq-eqb _ _ (at .2)) in
+    let low = lowest-below (suc n) (λ b. eqb (getD l b 0) (bestBand (suc n) l)) (at .0) (eq-eqb _ _ (at .2)) in
     omega (arith, low, at .1)

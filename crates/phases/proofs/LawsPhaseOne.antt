@@ -1,6 +1,6 @@
 -- One turn of phase one's loop: how it goes on, and the three ways in which it stops.
 use mathlib.Core.Path.{_≡_, refl, sym, _∙_, ap}
-use mathlib.Core.Bool.{Bool, true, false, cond, not, _&&_, or-true, or-false}
+use mathlib.Core.Bool.{Bool, true, false, cond, _&&_, or-true, or-false}
 use mathlib.Core.List.{List, [], _∷_}
 use Prim.Native.Nat.{ℕ, zero, suc, _+_, _*_, _-_, _≤_, _<_}
 use native.Mathlib.Numerals.{add-one}
@@ -8,19 +8,14 @@ use native.Mathlib.Nat.{mul-le-mul}
 use native.Mathlib.Omega.{arith}
 use lib.Dec.{eqb, ltb}
 use lib.ListN.{getD, length}
-use borrow.Author.Tests.{eq-eqb, ne-eqb, not-true, not-false}
-use Rattle.roommates.specs.Lists.{Square, row, listLength, bandSize, bestBand, lowest}
+use borrow.Author.Tests.{eq-eqb, ne-eqb}
+use Rattle.roommates.specs.Lists.{Square, row, listLength, bandSize, bestBand}
+use Rattle.base.specs.Below.{lowest}
 use Rattle.roommates.specs.PhaseOne.{Work, work, ran, waits, step, phaseOneFrom, phaseOne, someEmptied}
-use Rattle.sheet.proofs.Cases.{both-ways, case}
+use Rattle.base.proofs.Cases.{both-ways, case}
 
 pub square-small : (n : ℕ) → n ≤ 128 → n * n ≤ 16384
 square-small n h = mul-le-mul h h
-
--- inside a list the default does not matter
-pub getD-inside : (l : List ℕ) (i a b : ℕ) → i < length l → getD l i a ≡ getD l i b
-getD-inside [] i a b h = omega arith
-getD-inside (x ∷ l) zero a b h = refl
-getD-inside (x ∷ l) (suc i) a b h = getD-inside l i a b (omega arith)
 
 pub band-few : (n k : ℕ) (l : List ℕ) → bandSize n k l ≤ n
 unfolding bandSize
@@ -66,13 +61,6 @@ one-runs-out f n w cs i h er ed =
 
 pub all-turns : (n : ℕ) (w : Work) (cs : List ℕ) → phaseOneFrom (n * n + 1) n w cs 0 ≡ phaseOne n w cs
 all-turns n w cs = rw (add-one (n * n))
-
--- a call's answer r, tested as `!r`
-pub said-yes : {r b : Bool} → r ≡ b → not r ≡ false → b ≡ true
-said-yes {r} e h = sym e ∙ not-false r h
-
-pub said-no : {r b : Bool} → r ≡ b → not r ≡ true → b ≡ false
-said-no {r} e h = sym e ∙ not-true r h
 
 pub and-first : (a b : Bool) → (a && b) ≡ true → a ≡ true
 and-first true b h = refl

@@ -8,7 +8,8 @@ use native.Mathlib.Omega.{arith}
 use lib.Dec.{eqb, ltb}
 use lib.ListN.{getD}
 use borrow.Author.Tests.{eq-eqb, ne-eqb}
-use Rattle.roommates.specs.Lists.{Square, lowest}
+use Rattle.roommates.specs.Lists.{Square}
+use Rattle.base.specs.Below.{lowest}
 use Rattle.roommates.specs.PhaseOne.{Work, work, fuel}
 use Rattle.roommates.specs.PhaseTwo.{Cut, kept, neither, cutAt, Verdict, going, none-two, paired, End, ended, leftOver, longer, onCut, phaseTwoFrom}
 use Rattle.phases.specs.Codes.{verdictAfter, listsAfter, verdictNumber, EndIs}

@@ -3,7 +3,8 @@ ghost use mathlib.Core.Path.{_≡_};
 ghost use Prim.Native.Nat.{_≤_};
 ghost use lib.Dec.{eqb};
 ghost use lib.ListN.{getD};
-ghost use Rattle.roommates.specs.Lists.{listLength, betterBand, bestBand, worstBand, bandSize, firstOn, lowest};
+ghost use Rattle.roommates.specs.Lists.{listLength, betterBand, bestBand, worstBand, bandSize, firstOn};
+ghost use Rattle.base.specs.Below.{lowest};
 ghost use Rattle.roommates.specs.PhaseOne.{listWaits};
 
 pub(crate) fn list_length(n: usize, row: &[u8; 128]) -> u8

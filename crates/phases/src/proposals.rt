@@ -79,7 +79,7 @@ fn step(
     reach[p] = k;
     propose_all(n, &list, k, reach, bands, p);
     receive_all(n, &list, k, received);
-    *proposals += sheet::wide(band_size(n, k, &list));
+    *proposals += base::wide(band_size(n, k, &list));
 }
 
 // the i-th choice, or the lowest joint allowed where choices have run out
@@ -87,7 +87,7 @@ pub(crate) fn chosen(choices: &[u8], i: usize, low: usize) -> usize
     ensures { λ r. ⌜ r ≡ getD (now (choices .entry)) i low ⌝ }
 {
     if i < choices.len() {
-        return sheet::wide(choices[i]);
+        return base::wide(choices[i]);
     }
     low
 }

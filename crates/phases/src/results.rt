@@ -5,7 +5,8 @@ ghost use mathlib.Core.List.{_++_};
 ghost use Prim.Native.Nat.{_+_, _*_, _≤_, _<_};
 ghost use lib.Dec.{leb};
 ghost use lib.ListN.{length, getD, take, drop, set};
-ghost use Rattle.roommates.specs.Lists.{listLength, lowest};
+ghost use Rattle.roommates.specs.Lists.{listLength};
+ghost use Rattle.base.specs.Below.{lowest};
 ghost use Rattle.roommates.specs.Working.{partnerOn, pairingOf, pairCount, rowEntries, entriesUpTo, entryCount, listBytes};
 
 // the lowest joint on a list

@@ -3,7 +3,7 @@ use mathlib.Core.Path.{_≡_, sym, _∙_}
 use mathlib.Core.Logic.{_⊎_, inl, inr, _≢_}
 use Prim.Native.Nat.{ℕ, _≤_, _<_}
 use native.Mathlib.Omega.{arith}
-use Rattle.sheet.proofs.Cases.{case, lt-ge}
+use Rattle.base.proofs.Cases.{case, lt-ge}
 use Rattle.roommates.proofs.Basics.{Bands, Beaten}
 use Rattle.roommates.proofs.Proposals.{Trim, State, Proposal, Invariant, Ended}
 use Rattle.roommates.proofs.StrikesCompose.{was-there}

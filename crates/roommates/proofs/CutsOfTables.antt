@@ -4,8 +4,8 @@ use mathlib.Core.Bool.{true, false}
 use mathlib.Core.Logic.{_≢_}
 use Prim.Native.Nat.{ℕ, _<_}
 use Rattle.sheet.specs.Square.{at}
-use Rattle.sheet.proofs.Cases.{case}
-use Rattle.matching.proofs.TestParts.{never}
+use Rattle.base.proofs.Cases.{case}
+use Rattle.base.proofs.Tests.{never}
 use Rattle.roommates.specs.Lists.{Square, row, firstOn}
 use Rattle.roommates.specs.PhaseTwo.{trialStart, kept, neither, cutAt, longer}
 use Rattle.roommates.specs.Runs.{Cuts, uncut, cut-then}

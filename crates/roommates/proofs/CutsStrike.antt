@@ -8,14 +8,14 @@ use native.Mathlib.Omega.{arith}
 use lib.ListN.{getD}
 use borrow.Author.Tests.{leb-true}
 use Rattle.sheet.specs.Square.{at}
-use Rattle.sheet.proofs.Cases.{case, lt-ge}
+use Rattle.base.proofs.Cases.{case, lt-ge}
 use Rattle.roommates.specs.Lists.{Square, row, listLength, worstBand, firstOn}
 use Rattle.roommates.specs.PhaseOne.{fresh, fuel}
 use Rattle.roommates.specs.PhaseTwo.{trialStart, trial, noneEmptied, kept, neither, cutAt, longer}
 use Rattle.roommates.specs.Runs.{Cuts, uncut, cut-then}
 use Rattle.roommates.specs.Working.{entryCount}
 use Rattle.roommates.proofs.Rows.{some-listed, listed-some, worst-most, worst-attained}
-use Rattle.roommates.proofs.Lowest.{first-best}
+use Rattle.roommates.proofs.FirstOn.{first-best}
 use Rattle.roommates.proofs.Sound.{Sound, Shrunk, shrunk-refl, shrunk-trans, shrunk-sound}
 use Rattle.roommates.proofs.Trims.{strike-band-shrunk, trial-trim}
 use Rattle.roommates.proofs.States.{fresh-steady}

@@ -7,7 +7,7 @@ use Prim.Native.Nat.{ℕ}
 use Rattle.sheet.specs.Format.{joints}
 use Rattle.sheet.specs.Square.{SquarePromise, squareOf}
 use Rattle.sheet.proofs.PromiseKept.{accepted-square}
-use Rattle.sheet.proofs.Cases.{case, both-ways}
+use Rattle.base.proofs.Cases.{case, both-ways}
 use Rattle.matching.specs.Matchings.{isSuperStable}
 use Rattle.roommates.specs.Lists.{Square}
 use Rattle.roommates.specs.PhaseOne.{Work}

@@ -7,18 +7,20 @@ use lib.Dec.{eqb}
 use lib.ListN.{getD}
 use borrow.Author.Tests.{eqb-true, eqb-false, eq-eqb}
 use Rattle.sheet.specs.Square.{at}
-use Rattle.sheet.proofs.Cases.{case, lt-ge, and-true}
+use Rattle.base.proofs.Cases.{case, lt-ge}
+use Rattle.base.proofs.Tests.{and-true}
 use Rattle.roommates.specs.Lists.{row, listLength}
 use Rattle.roommates.specs.PhaseOne.{Work, someEmptied}
-use Rattle.roommates.proofs.Counts.{any, any-true, any-false}
+use Rattle.base.specs.Below.{anyBelow}
+use Rattle.base.proofs.AnyBelow.{any-true, any-none}
 use Rattle.roommates.proofs.Rows.{some-listed, empty-places}
 use Rattle.roommates.proofs.Sound.{Sound}
 
 abbrev emptied : ℕ → Work → ℕ → Bool
 emptied n w a = eqb (getD (w .received) a 0) 1 && eqb (listLength n (row (w .lists) a)) 0
 
-any-emptied : (i n : ℕ) (w : Work) → someEmptied i n w ≡ any i (λ a. emptied n w a)
-unfolding someEmptied any
+any-emptied : (i n : ℕ) (w : Work) → someEmptied i n w ≡ anyBelow i (λ a. emptied n w a)
+unfolding someEmptied anyBelow
 any-emptied zero n w = refl
 any-emptied (suc i) n w = rw (any-emptied i n w) refl
 
@@ -42,7 +44,7 @@ pub none-emptied : (n : ℕ) (w : Work) → someEmptied n n w ≡ false → (a :
     → (b : ℕ) × (0 < at (w .lists) a b)
 none-emptied n w h a m g =
     let l = row (w .lists) a in
-    let e : emptied n w a ≡ false = any-false n _ (sym (any-emptied n n w) ∙ h) a m in
+    let e : emptied n w a ≡ false = any-none n _ (sym (any-emptied n n w) ∙ h) a m in
     let d : eqb (listLength n l) 0 ≡ false = rw (eq-eqb (getD (w .received) a 0) 1 g) at e in
     case (lt-ge 0 (listLength n l))
     (λ p. let r : (j : ℕ) × (j < n) × (0 < getD l j 0) = some-listed n l p in (r .0, r .2))

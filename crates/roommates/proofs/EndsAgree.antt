@@ -4,7 +4,7 @@ use mathlib.Core.Bool.{true, false}
 use Prim.Native.Nat.{ℕ, _<_}
 use native.Mathlib.Omega.{arith}
 use Rattle.sheet.specs.Square.{at}
-use Rattle.sheet.proofs.Cases.{case, both-ways}
+use Rattle.base.proofs.Cases.{case, both-ways}
 use Rattle.roommates.specs.Lists.{Square}
 use Rattle.roommates.specs.PhaseOne.{Work, someEmptied}
 use Rattle.roommates.proofs.Confluence.{Under, same-lists, empty-everywhere}

@@ -12,9 +12,10 @@ use Rattle.sheet.specs.Promise.{Promise, Before, entryOf}
 use Rattle.sheet.proofs.Entries.{length-entries}
 use Rattle.sheet.proofs.BandIn.{band-here, band-elsewhere, band-nowhere}
 use Rattle.sheet.proofs.PromiseKept.{accepted-promise, square-is-entries}
-use Rattle.sheet.proofs.Cases.{case}
+use Rattle.base.proofs.Cases.{case}
 use Rattle.roommates.specs.Claims.{AllListed}
-use Rattle.roommates.proofs.Sums.{sumTo, sum-same, sum-bound, sum-one-more}
+use Rattle.base.specs.Below.{sumBelow}
+use Rattle.base.proofs.SumBelow.{sum-same, sum-bound, sum-one-more}
 use Rattle.roommates.proofs.EntryCounts.{mark, mark-none, mark-listed, entries-marks}
 
 -- what a sheet promises that matters here
@@ -43,10 +44,10 @@ first-apart e es o =
     (λ h. inl (λ i. omega arith))
     (λ h. inr (λ i. let k : e .other < entryOf es j .other = h .1 in omega arith))
 
-no-marks : (n : ℕ) (f : ℕ → ℕ) → ((i : ℕ) → i < n → f i ≡ 0) → sumTo n f ≡ 0
-no-marks n f none = let h : sumTo n f ≤ n * 0 = sum-bound n 0 f (λ i l. omega (arith, none i l)) in omega arith
+no-marks : (n : ℕ) (f : ℕ → ℕ) → ((i : ℕ) → i < n → f i ≡ 0) → sumBelow n f ≡ 0
+no-marks n f none = let h : sumBelow n f ≤ n * 0 = sum-bound n 0 f (λ i l. omega (arith, none i l)) in omega arith
 
-marks-sum : (n : ℕ) (es : List Entry) → Ordered n es → sumTo n (λ a. sumTo n (entryMarks es a)) ≡ length es
+marks-sum : (n : ℕ) (es : List Entry) → Ordered n es → sumBelow n (λ a. sumBelow n (entryMarks es a)) ≡ length es
 marks-sum n [] o = no-marks n _ λ a l. no-marks n _ λ b k. mark-none _ (band-nowhere [] a b (λ j i. absurd (omega arith)))
 marks-sum n (e ∷ es) o =
     let p : ℕ = e .joint in
@@ -57,13 +58,13 @@ marks-sum n (e ∷ es) o =
     let some : 1 ≤ e .band = o .band-above 0 (omega arith) in
     let new : entryMarks (e ∷ es) p q ≡ 1 = mark-listed _ (omega arith) in
     omega arith in
-    let its-row : sumTo n (entryMarks (e ∷ es) p) ≡ sumTo n (entryMarks es p) + 1 =
+    let its-row : sumBelow n (entryMarks (e ∷ es) p) ≡ sumBelow n (entryMarks es p) + 1 =
     sum-one-more n (entryMarks es p) (entryMarks (e ∷ es) p) q 1 (o .other-below 0 (omega arith))
     (λ b l d. ap mark (band-elsewhere e es p b (inr d))) here in
-    let all : sumTo n (λ a. sumTo n (entryMarks (e ∷ es) a)) ≡ sumTo n (λ a. sumTo n (entryMarks es a)) + 1 =
-    sum-one-more n (λ a. sumTo n (entryMarks es a)) (λ a. sumTo n (entryMarks (e ∷ es) a)) p 1 (o .joint-below 0 (omega arith))
+    let all : sumBelow n (λ a. sumBelow n (entryMarks (e ∷ es) a)) ≡ sumBelow n (λ a. sumBelow n (entryMarks es a)) + 1 =
+    sum-one-more n (λ a. sumBelow n (entryMarks es a)) (λ a. sumBelow n (entryMarks (e ∷ es) a)) p 1 (o .joint-below 0 (omega arith))
     (λ a l d. sum-same n _ _ (λ b k. ap mark (band-elsewhere e es a b (inl d)))) its-row in
-    let rest : sumTo n (λ a. sumTo n (entryMarks es a)) ≡ length es = marks-sum n es (rest-ordered o) in
+    let rest : sumBelow n (λ a. sumBelow n (entryMarks es a)) ≡ length es = marks-sum n es (rest-ordered o) in
     omega arith
 
 pub all-listed : AllListed

@@ -10,7 +10,7 @@ use Rattle.sheet.specs.Square.{at}
 use Rattle.roommates.specs.Lists.{Square, row, listLength}
 use Rattle.roommates.specs.Working.{rowEntries, entriesUpTo, entryCount, listBytes}
 use Rattle.roommates.proofs.EntryCounts.{mark, length-sum, entries-sum}
-use Rattle.roommates.proofs.Sums.{sum-same}
+use Rattle.base.proofs.SumBelow.{sum-same}
 
 -- one entry, or none
 entry : Bool → ℕ → ℕ → ℕ → List ℕ

@@ -9,11 +9,12 @@ use lib.Dec.{eqb}
 use lib.ListN.{getD}
 use borrow.Author.Tests.{eq-eqb, ne-eqb}
 use Rattle.sheet.specs.Square.{at}
-use Rattle.sheet.proofs.Cases.{case, lt-ge}
+use Rattle.base.proofs.Cases.{case, lt-ge}
 use Rattle.roommates.specs.Lists.{Square, row, listLength, bandSize}
 use Rattle.roommates.specs.Working.{entryCount}
 use Rattle.roommates.proofs.Basics.{Below}
-use Rattle.roommates.proofs.Sums.{sumTo, sum-le, sum-same, sum-bound, sum-term, sum-raise, sum-raise-two, sum-even, halfSum}
+use Rattle.base.specs.Below.{sumBelow}
+use Rattle.base.proofs.SumBelow.{sum-le, sum-same, sum-bound, sum-term, sum-raise, sum-raise-two, sum-even, halfSum}
 
 -- 1 for a listed place, 0 for one that is not
 unfoldable pub mark : ℕ → ℕ
@@ -52,13 +53,13 @@ pub hit-other : (k b : ℕ) → b ≢ k → hit k b ≡ 0
 unfolding hit
 hit-other k b d = rw (ne-eqb b k d)
 
-pub length-sum : (n : ℕ) (l : List ℕ) → listLength n l ≡ sumTo n (λ b. mark (getD l b 0))
-unfolding listLength sumTo mark
+pub length-sum : (n : ℕ) (l : List ℕ) → listLength n l ≡ sumBelow n (λ b. mark (getD l b 0))
+unfolding listLength sumBelow mark
 length-sum zero l = refl
 length-sum (suc n) l = ap (λ (s : ℕ). s + mark (getD l n 0)) (length-sum n l)
 
-pub size-sum : (n k : ℕ) (l : List ℕ) → bandSize n k l ≡ sumTo n (λ b. hit k (getD l b 0))
-unfolding bandSize sumTo hit
+pub size-sum : (n k : ℕ) (l : List ℕ) → bandSize n k l ≡ sumBelow n (λ b. hit k (getD l b 0))
+unfolding bandSize sumBelow hit
 size-sum zero k l = refl
 size-sum (suc n) k l = ap (λ (s : ℕ). s + hit k (getD l n 0)) (size-sum n k l)
 
@@ -68,8 +69,8 @@ in-band-some n k l j h e =
     let one : hit k (getD l j 0) ≡ 1 = hit-same k (getD l j 0) e in
     rw (size-sum n k l) (omega (arith, sum-term n (λ b. hit k (getD l b 0)) j h))
 
-pub entries-sum : (i n : ℕ) (t : Square) → entryCount i n t ≡ sumTo i (λ a. listLength n (row t a))
-unfolding entryCount sumTo
+pub entries-sum : (i n : ℕ) (t : Square) → entryCount i n t ≡ sumBelow i (λ a. listLength n (row t a))
+unfolding entryCount sumBelow
 entries-sum zero n t = refl
 entries-sum (suc i) n t = ap (λ (s : ℕ). s + listLength n (row t i)) (entries-sum i n t)
 
@@ -77,13 +78,13 @@ entries-sum (suc i) n t = ap (λ (s : ℕ). s + listLength n (row t i)) (entries
 abbrev pub marks : Square → ℕ → ℕ → ℕ
 marks t a b = mark (at t a b)
 
-pub entries-marks : (n : ℕ) (t : Square) → entryCount n n t ≡ sumTo n (λ a. sumTo n (marks t a))
+pub entries-marks : (n : ℕ) (t : Square) → entryCount n n t ≡ sumBelow n (λ a. sumBelow n (marks t a))
 entries-marks n t = entries-sum n n t ∙ sum-same n _ _ (λ a lt. length-sum n (row t a))
 
 pub length-bound : (n : ℕ) (l : List ℕ) → listLength n l ≤ n
 length-bound n l =
-    let few : sumTo n (λ b. mark (getD l b 0)) ≤ n * 1 = sum-bound n 1 _ (λ b lt. mark-le (getD l b 0)) in
-    let e : listLength n l ≡ sumTo n (λ b. mark (getD l b 0)) = length-sum n l in
+    let few : sumBelow n (λ b. mark (getD l b 0)) ≤ n * 1 = sum-bound n 1 _ (λ b lt. mark-le (getD l b 0)) in
+    let e : listLength n l ≡ sumBelow n (λ b. mark (getD l b 0)) = length-sum n l in
     omega arith
 
 pub entries-bound : (n : ℕ) (t : Square) → entryCount n n t ≤ n * n

@@ -9,11 +9,12 @@ use lib.ListN.{getD, set}
 use lib.Seq.{getD-set-same, getD-set-other}
 use borrow.Author.Tests.{le-leb, lt-leb}
 use Rattle.sheet.specs.Square.{at}
-use Rattle.sheet.proofs.Cases.{case, lt-ge, eq-ne}
+use Rattle.base.proofs.Cases.{case, lt-ge, eq-ne}
 use Rattle.roommates.specs.Lists.{Square, row, bestBand, bandSize}
 use Rattle.roommates.specs.PhaseOne.{Work, fresh, waits, step}
 use Rattle.roommates.specs.Runs.{Run, stop, then}
-use Rattle.roommates.proofs.Sums.{sumTo, sum-le, sum-bound, sum-add, sum-raise}
+use Rattle.base.specs.Below.{sumBelow}
+use Rattle.base.proofs.SumBelow.{sum-le, sum-bound, sum-add, sum-raise}
 use Rattle.roommates.proofs.EntryCounts.{hit, hit-same, hit-other, size-sum}
 use Rattle.roommates.proofs.Rows.{best-least, best-attained}
 use Rattle.roommates.proofs.Waiting.{waits-listed, waits-standing}
@@ -72,12 +73,12 @@ within-more r k b c lt h =
 
 -- the joints on a list in bands up to k
 pub asked : ℕ → ℕ → List ℕ → ℕ
-asked n k l = sumTo n (λ b. within k (getD l b 0))
+asked n k l = sumBelow n (λ b. within k (getD l b 0))
 
 asked-le : (n k : ℕ) (l : List ℕ) → asked n k l ≤ n
 unfolding asked
 asked-le n k l =
-    let few : sumTo n (λ b. within k (getD l b 0)) ≤ n * 1 = sum-bound n 1 _ (λ b lt. within-le k (getD l b 0)) in
+    let few : sumBelow n (λ b. within k (getD l b 0)) ≤ n * 1 = sum-bound n 1 _ (λ b lt. within-le k (getD l b 0)) in
     omega arith
 
 asked-more : (n r k : ℕ) (l m : List ℕ) → r < k → ((b : ℕ) → b < n → getD m b 0 ≡ k → getD l b 0 ≡ k) → asked n r l + bandSize n k m ≤ asked n k l
@@ -90,7 +91,7 @@ asked-more n r k l m lt h =
 pub record Counted (n : ℕ) (t : Square) (w : Work) : Type 0 where
   pub steady : Steady n w
   pub shrunk : Shrunk t (w .lists)
-  pub few : w .proposals ≤ sumTo n (λ p. asked n (getD (w .reach) p 0) (row t p))
+  pub few : w .proposals ≤ sumBelow n (λ p. asked n (getD (w .reach) p 0) (row t p))
 
 pub counted-fresh : {n : ℕ} {t : Square} → Sound n t → Counted n t (fresh t)
 counted-fresh s = record { steady = fresh-steady s; shrunk = shrunk-refl s; few = omega arith }
@@ -114,7 +115,7 @@ module _ (n : ℕ) (t : Square) (w : Work) (p : ℕ) (lt : p < n) (wt : waits n 
   asked-here : asked n (getD (w .reach) p 0) (row t p) + bandSize n (bestBand n (row (w .lists) p)) (row (w .lists) p) ≤ asked n (bestBand n (row (w .lists) p)) (row t p)
   asked-here = asked-more n _ _ (row t p) (row (w .lists) p) beyond (λ b lb e. sym (c .shrunk .below .kept p b (omega (arith, beyond))) ∙ e)
 
-  few-step : step n w p .proposals ≤ sumTo n (λ q. asked n (getD (step n w p .reach) q 0) (row t q))
+  few-step : step n w p .proposals ≤ sumBelow n (λ q. asked n (getD (step n w p .reach) q 0) (row t q))
   unfolding step
   few-step =
       let k : ℕ = bestBand n (row (w .lists) p) in
@@ -129,8 +130,8 @@ module _ (n : ℕ) (t : Square) (w : Work) (p : ℕ) (lt : p < n) (wt : waits n 
       case (eq-ne q p)
       (λ e. rw e (let o : old p + d ≤ new p = up in omega arith))
       (λ ne. rw (getD-set-other (w .reach) p q k 0 ne) (omega arith)) in
-      let raised : sumTo n old + d ≤ sumTo n new = sum-raise n old new p d lt under up in
-      let before : w .proposals ≤ sumTo n old = c .few in
+      let raised : sumBelow n old + d ≤ sumBelow n new = sum-raise n old new p d lt under up in
+      let before : w .proposals ≤ sumBelow n old = c .few in
       omega arith
 
   pub counted-step : Counted n t (step n w p)
@@ -147,8 +148,8 @@ counted-run {n} {t} {w} (then p lt wt r) c = counted-run r (counted-step n t w p
 
 pub counted-few : {n : ℕ} {t : Square} {w : Work} → Counted n t w → w .proposals ≤ n * n
 counted-few {n} {t} {w} c =
-    let few : w .proposals ≤ sumTo n (λ p. asked n (getD (w .reach) p 0) (row t p)) = c .few in
-    let all : sumTo n (λ p. asked n (getD (w .reach) p 0) (row t p)) ≤ n * n = sum-bound n n _ (λ p lt. asked-le n _ (row t p)) in
+    let few : w .proposals ≤ sumBelow n (λ p. asked n (getD (w .reach) p 0) (row t p)) = c .few in
+    let all : sumBelow n (λ p. asked n (getD (w .reach) p 0) (row t p)) ≤ n * n = sum-bound n n _ (λ p lt. asked-le n _ (row t p)) in
     omega arith
 
 pub few-proposals : {n : ℕ} {t : Square} {w : Work} → Sound n t → Run n (fresh t) w → w .proposals ≤ n * n

@@ -7,10 +7,11 @@ use Prim.Native.Nat.{ℕ, zero, suc, _+_, _*_, _≤_, _<_}
 use native.Mathlib.Omega.{arith}
 use lib.Dec.{eqb}
 use borrow.Author.Tests.{eqb-false, lt-ltb}
-use Rattle.sheet.proofs.Cases.{case, both-ways}
-use Rattle.roommates.specs.Lists.{Square, lowest}
+use Rattle.base.proofs.Cases.{case, both-ways}
+use Rattle.roommates.specs.Lists.{Square}
+use Rattle.base.specs.Below.{lowest}
 use Rattle.roommates.specs.PhaseOne.{Work, Ran, fresh, waits, step, phaseOneFrom, phaseOne, fuel}
-use Rattle.roommates.proofs.Lowest.{lowest-at-most, lowest-passes}
+use Rattle.base.proofs.Lowest.{lowest-at-most, lowest-passes}
 use Rattle.roommates.proofs.Sound.{Sound}
 use Rattle.roommates.proofs.Running.{Stopped, phase-one-stops}
 use Rattle.roommates.proofs.FewProposals.{Counted, counted-fresh, counted-run, counted-few}

@@ -3,7 +3,7 @@ use mathlib.Core.Path.{_≡_, sym, _∙_}
 use mathlib.Core.Logic.{_⊎_, inl, inr}
 use Prim.Native.Nat.{ℕ, _≤_, _<_}
 use native.Mathlib.Omega.{arith}
-use Rattle.sheet.proofs.Cases.{case}
+use Rattle.base.proofs.Cases.{case}
 use Rattle.roommates.proofs.Basics.{Bands, Below, Beaten}
 use Rattle.roommates.proofs.StrikesCompose.{was-there, below-trans, proposal-below}
 use Rattle.roommates.proofs.Proposals.{Trim, State, Proposal, Invariant}

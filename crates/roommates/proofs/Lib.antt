@@ -23,9 +23,8 @@ pub mod TrialKeepsMatching
 pub mod OverAndLost
 pub mod MatchingInTable
 -- The definitions over one list and over the square, as facts.
-pub mod Counts
 pub mod Rows
-pub mod Lowest
+pub mod FirstOn
 pub mod Strikes
 pub mod Sound
 pub mod HasList
@@ -42,7 +41,6 @@ pub mod Steps
 pub mod Running
 pub mod RunsKeep
 -- What is counted and written.
-pub mod Sums
 pub mod EntryCounts
 pub mod EntriesWritten
 pub mod EntriesListed

@@ -6,7 +6,7 @@ use Prim.Native.Nat.{ℕ, _≤_, _<_}
 use native.Mathlib.Omega.{arith}
 use lib.Dec.{ltb}
 use borrow.Author.Tests.{lt-ltb, le-ltb}
-use Rattle.sheet.proofs.Cases.{case, lt-ge}
+use Rattle.base.proofs.Cases.{case, lt-ge}
 use Rattle.roommates.proofs.Basics.{Bands, Stable, Prefers, On}
 use Rattle.roommates.proofs.StrikesCompose.{was-there}
 use Rattle.roommates.proofs.Tables.{Table, prefers}

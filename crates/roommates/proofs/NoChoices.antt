@@ -6,11 +6,12 @@ use Prim.Native.Nat.{ℕ, zero, suc, _<_}
 use native.Mathlib.Omega.{arith}
 use lib.Dec.{eqb}
 use borrow.Author.Tests.{eqb-false, lt-ltb, le-ltb}
-use Rattle.roommates.specs.Lists.{Square, lowest}
+use Rattle.roommates.specs.Lists.{Square}
+use Rattle.base.specs.Below.{lowest}
 use Rattle.roommates.specs.PhaseOne.{Work, Ran, fresh, phaseOne, fuel, someEmptied}
 use Rattle.roommates.specs.PhaseTwo.{cutAt, End, leftOver, longer, phaseTwoFrom}
 use Rattle.roommates.specs.Working.{afterOne, settles, shortens}
-use Rattle.roommates.proofs.Lowest.{lowest-at-most, lowest-passes}
+use Rattle.base.proofs.Lowest.{lowest-at-most, lowest-passes}
 use Rattle.roommates.proofs.Sound.{Sound}
 use Rattle.roommates.proofs.FuelLasts.{unrefused, trial-ends}
 use Rattle.roommates.proofs.PhaseTwoRuns.{by-test, by-cut}

@@ -5,10 +5,10 @@ use Prim.Native.Nat.{ℕ, zero, suc, _<_}
 use native.Mathlib.Omega.{arith}
 use lib.Dec.{eqb, leb}
 use borrow.Author.Tests.{leb-true, le-leb, eq-eqb, ne-eqb}
-use Rattle.sheet.proofs.Cases.{case, lt-ge, and-true}
+use Rattle.base.proofs.Cases.{case, lt-ge, below-suc}
+use Rattle.base.proofs.Tests.{and-true}
 use Rattle.roommates.specs.Lists.{Square, row, listLength}
 use Rattle.roommates.specs.PhaseTwo.{noneEmptied}
-use Rattle.roommates.proofs.Counts.{below-suc}
 use Rattle.roommates.proofs.HasList.{HasList}
 
 pub none-emptied-has : (i n : ℕ) (one t : Square) → noneEmptied i n one t ≡ true → (a : ℕ) → a < i → HasList n one a → HasList n t a

@@ -2,7 +2,7 @@
 use mathlib.Core.Path.{_≡_}
 use Prim.Native.Nat.{ℕ, _≤_, _<_}
 use native.Mathlib.Omega.{arith}
-use Rattle.sheet.proofs.Cases.{case}
+use Rattle.base.proofs.Cases.{case}
 use Rattle.roommates.proofs.Basics.{Bands, Stable, On}
 use Rattle.roommates.proofs.Proposals.{Trim}
 

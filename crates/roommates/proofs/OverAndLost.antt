@@ -4,7 +4,7 @@ use mathlib.Core.Path.{_≡_, sym, _∙_, ap}
 use mathlib.Core.Logic.{_⊎_, inl, inr}
 use Prim.Native.Nat.{ℕ, _≤_, _<_}
 use native.Mathlib.Omega.{arith}
-use Rattle.sheet.proofs.Cases.{case, lt-ge}
+use Rattle.base.proofs.Cases.{case, lt-ge}
 use Rattle.roommates.proofs.Basics.{Bands, Stable}
 use Rattle.roommates.proofs.Pigeonhole.{pigeonhole}
 use Rattle.roommates.proofs.Tables.{Table}

@@ -8,7 +8,7 @@ use native.Mathlib.Omega.{arith}
 use lib.Dec.{eqb}
 use borrow.Author.Tests.{eq-eqb, ne-eqb}
 use Rattle.sheet.specs.Square.{at, SquarePromise}
-use Rattle.sheet.proofs.Cases.{case, lt-ge}
+use Rattle.base.proofs.Cases.{case, lt-ge}
 use Rattle.matching.specs.Matchings.{partner, isSuperStable}
 use Rattle.roommates.specs.Lists.{Square, row, listLength}
 use Rattle.roommates.specs.PhaseOne.{Work}

@@ -7,13 +7,13 @@ use lib.Dec.{leb}
 use lib.ListN.{length, getD, length-append, List·getD-append}
 use lib.Seq.{getD-at}
 use borrow.Author.Tests.{eq-eqb, ne-eqb, le-leb, leb-true}
-use Rattle.sheet.proofs.Cases.{case, lt-ge, eq-ne}
-use Rattle.roommates.specs.Lists.{Square, row, listLength, lowest}
+use Rattle.base.proofs.Cases.{case, lt-ge, eq-ne, below-suc}
+use Rattle.roommates.specs.Lists.{Square, row, listLength}
+use Rattle.base.specs.Below.{lowest, sumBelow}
 use Rattle.roommates.specs.Working.{partnerOn, partnersUpTo, pairingOf, pairedJoints, pairCount, listedJoints, entryCount}
-use Rattle.roommates.proofs.Counts.{below-suc}
 use Rattle.roommates.proofs.Rows.{some-listed, listed-some, listed-two}
-use Rattle.roommates.proofs.Lowest.{some-passes, lowest-passes}
-use Rattle.roommates.proofs.Sums.{sumTo, sum-same}
+use Rattle.base.proofs.Lowest.{some-passes, lowest-passes}
+use Rattle.base.proofs.SumBelow.{sum-same}
 use Rattle.roommates.proofs.EntryCounts.{mark, mark-none, mark-listed, entries-sum, entries-even}
 use Rattle.roommates.proofs.Sound.{Sound}
 
@@ -62,8 +62,8 @@ unfolding pairedJoints
 paired-append [] m = omega arith
 paired-append (x ∷ l) m = let rest : pairedJoints (l ++ m) ≡ pairedJoints l + pairedJoints m = paired-append l m in omega arith
 
-listed-sum : (i n : ℕ) (t : Square) → listedJoints i n t ≡ sumTo i (λ a. mark (listLength n (row t a)))
-unfolding listedJoints sumTo mark
+listed-sum : (i n : ℕ) (t : Square) → listedJoints i n t ≡ sumBelow i (λ a. mark (listLength n (row t a)))
+unfolding listedJoints sumBelow mark
 listed-sum zero n t = refl
 listed-sum (suc i) n t = ap₂ _+_ (listed-sum i n t) refl
 
@@ -80,8 +80,8 @@ paired-one n l h =
     let m : mark (listLength n l) ≡ 0 = mark-none _ z in
     rw (partner-none n l z) (omega arith))
 
-paired-joints : (i n : ℕ) (t : Square) → n ≤ 255 → pairedJoints (partnersUpTo i n t) ≡ sumTo i (λ a. mark (listLength n (row t a)))
-unfolding partnersUpTo sumTo pairedJoints
+paired-joints : (i n : ℕ) (t : Square) → n ≤ 255 → pairedJoints (partnersUpTo i n t) ≡ sumBelow i (λ a. mark (listLength n (row t a)))
+unfolding partnersUpTo sumBelow pairedJoints
 paired-joints zero n t h = refl
 paired-joints (suc i) n t h =
     paired-append (partnersUpTo i n t) (partnerOn n (row t i) ∷ []) ∙ ap₂ _+_ (paired-joints i n t h) (paired-one n (row t i) h)

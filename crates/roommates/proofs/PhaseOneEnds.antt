@@ -9,7 +9,7 @@ use Rattle.roommates.specs.PhaseOne.{Work, someEmptied}
 use Rattle.roommates.proofs.Basics.{Stable, On, PhaseEnd}
 use Rattle.roommates.proofs.Proposals.{Invariant, Ended}
 use Rattle.roommates.proofs.StrikesCompose.{was-there, below-refl}
-use Rattle.roommates.proofs.Lowest.{first-best}
+use Rattle.roommates.proofs.FirstOn.{first-best}
 use Rattle.roommates.proofs.Heads.{Heads}
 use Rattle.roommates.proofs.ReceivedEmpty.{ReceivedEmpty}
 use Rattle.roommates.proofs.Confluence.{NoneEmpty}

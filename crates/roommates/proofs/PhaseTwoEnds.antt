@@ -7,7 +7,7 @@ use native.Mathlib.Omega.{arith}
 use lib.ListN.{getD}
 use borrow.Author.Tests.{leb-false}
 use Rattle.sheet.specs.Square.{at}
-use Rattle.sheet.proofs.Cases.{case, lt-ge, eq-ne}
+use Rattle.base.proofs.Cases.{case, lt-ge, eq-ne}
 use Rattle.roommates.specs.Lists.{Square, row, listLength}
 use Rattle.roommates.specs.PhaseOne.{Work, someEmptied}
 use Rattle.roommates.specs.PhaseTwo.{neither, cutAt, longer}

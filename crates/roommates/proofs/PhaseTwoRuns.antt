@@ -8,13 +8,15 @@ use native.Mathlib.Omega.{arith}
 use lib.Dec.{eqb, ltb}
 use lib.ListN.{length, getD}
 use borrow.Author.Tests.{eqb-true, ltb-true}
-use Rattle.sheet.proofs.Cases.{case, and-true}
-use Rattle.roommates.specs.Lists.{Square, row, listLength, lowest}
+use Rattle.base.proofs.Cases.{case}
+use Rattle.base.proofs.Tests.{and-true}
+use Rattle.roommates.specs.Lists.{Square, row, listLength}
+use Rattle.base.specs.Below.{lowest}
 use Rattle.roommates.specs.PhaseOne.{Work, fuel}
 use Rattle.roommates.specs.PhaseTwo.{Cut, kept, neither, cutAt, going, none-two, paired, End, leftOver, afterCut, longer, onCut, phaseTwoFrom}
 use Rattle.roommates.specs.Runs.{Cuts, uncut, cut-then}
 use Rattle.roommates.specs.Working.{entryCount}
-use Rattle.roommates.proofs.Lowest.{none-passes}
+use Rattle.base.proofs.Lowest.{none-passes}
 use Rattle.roommates.proofs.Sound.{Sound, shrunk-sound}
 use Rattle.roommates.proofs.EntryCounts.{entries-list, entries-bound}
 use Rattle.roommates.proofs.CutsStrike.{CutTo, cut-to, longer-two}

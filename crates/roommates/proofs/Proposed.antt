@@ -6,7 +6,7 @@ use Prim.Native.Nat.{ℕ, suc, _≤_, _<_}
 use native.Mathlib.Omega.{arith}
 use borrow.Author.Tests.{le-leb, lt-leb}
 use Rattle.sheet.specs.Square.{at}
-use Rattle.sheet.proofs.Cases.{case, lt-ge, eq-ne}
+use Rattle.base.proofs.Cases.{case, lt-ge, eq-ne}
 use Rattle.roommates.specs.Lists.{Square, strikeWorse, strikeBand}
 use Rattle.roommates.specs.PhaseOne.{standingAt, proposed}
 use Rattle.roommates.proofs.Basics.{Bands}

@@ -8,9 +8,10 @@ use native.Mathlib.Omega.{arith}
 use lib.Dec.{eqb, ltb}
 use lib.ListN.{getD}
 use borrow.Author.Tests.{ltb-true, lt-ltb, le-ltb, eq-eqb, ne-eqb}
-use Rattle.sheet.proofs.Cases.{case, lt-ge, eq-ne}
+use Rattle.base.proofs.Cases.{case, lt-ge, eq-ne, below-suc}
 use Rattle.roommates.specs.Lists.{listLength, betterBand, bestBand, worstBand}
-use Rattle.roommates.proofs.Counts.{count, counted, count-one, two-counted, count-two, Two, below-suc}
+use Rattle.base.specs.Below.{countBelow}
+use Rattle.base.proofs.CountBelow.{counted, count-one, two-counted, count-two, Two}
 
 listed-counts : (x : ℕ) → _≡_ {A = ℕ} (cond (eqb x 0) 0 1) (cond (ltb 0 x) 1 0)
 listed-counts x =
@@ -18,8 +19,8 @@ listed-counts x =
     (λ h. rw (ne-eqb x 0 (omega arith), lt-ltb 0 x h) refl)
     (λ h. rw (eq-eqb x 0 (omega arith), le-ltb 0 x h) refl)
 
-length-count : (n : ℕ) (l : List ℕ) → listLength n l ≡ count n (λ j. ltb 0 (getD l j 0))
-unfolding listLength count
+length-count : (n : ℕ) (l : List ℕ) → listLength n l ≡ countBelow n (λ j. ltb 0 (getD l j 0))
+unfolding listLength countBelow
 length-count zero l = refl
 length-count (suc i) l = ap₂ _+_ (length-count i l) (listed-counts (getD l i 0))
 

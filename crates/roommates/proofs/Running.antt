@@ -8,13 +8,13 @@ use native.Mathlib.Omega.{arith}
 use lib.Dec.{eqb, ltb}
 use lib.ListN.{getD}
 use borrow.Author.Tests.{eqb-true, ltb-true}
-use Rattle.sheet.proofs.Cases.{case, both-ways, and-true}
-use Rattle.matching.proofs.TestParts.{never}
-use Rattle.roommates.specs.Lists.{lowest}
+use Rattle.base.proofs.Cases.{case, both-ways}
+use Rattle.base.proofs.Tests.{and-true, never}
+use Rattle.base.specs.Below.{lowest}
 use Rattle.roommates.specs.PhaseOne.{Work, Ran, waits, step, phaseOneFrom}
 use Rattle.roommates.specs.Runs.{Run, stop, then}
 use Rattle.roommates.proofs.Proposals.{State}
-use Rattle.roommates.proofs.Lowest.{none-passes}
+use Rattle.base.proofs.Lowest.{none-passes}
 use Rattle.roommates.proofs.Sound.{Shrunk, shrunk-refl, shrunk-trans}
 use Rattle.roommates.proofs.States.{stateOf, Steady}
 use Rattle.roommates.proofs.StepProposals.{Kept}

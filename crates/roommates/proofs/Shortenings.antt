@@ -5,8 +5,8 @@ use mathlib.Core.Logic.{_⊎_, inl, inr, _≢_, _↔_}
 use mathlib.Core.List.{List}
 use Prim.Native.Nat.{ℕ}
 use native.Mathlib.Omega.{arith}
-use Rattle.sheet.proofs.Cases.{case, both-ways}
-use Rattle.matching.proofs.TestParts.{never}
+use Rattle.base.proofs.Cases.{case, both-ways}
+use Rattle.base.proofs.Tests.{never}
 use Rattle.roommates.specs.Lists.{Square}
 use Rattle.roommates.specs.PhaseOne.{Work, someEmptied}
 use Rattle.roommates.specs.PhaseTwo.{none-one, paired, End}

@@ -2,7 +2,7 @@
 use mathlib.Core.Path.{_≡_, _∙_}
 use mathlib.Core.Logic.{inl, inr, ⊎-map}
 use Prim.Native.Nat.{ℕ, _<_}
-use Rattle.sheet.proofs.Cases.{case}
+use Rattle.base.proofs.Cases.{case}
 use Rattle.roommates.proofs.Basics.{Bands, Stable, Prefers}
 use Rattle.roommates.proofs.Tables.{Table, first-in, prefers}
 

@@ -4,7 +4,7 @@ use Prim.Native.Nat.{ℕ, _≤_, _<_}
 use native.Mathlib.Omega.{arith}
 use lib.ListN.{length}
 use Rattle.sheet.specs.Square.{at, SquarePromise}
-use Rattle.sheet.proofs.Cases.{case, lt-ge}
+use Rattle.base.proofs.Cases.{case, lt-ge}
 use Rattle.roommates.specs.Lists.{Square, row, struck}
 use Rattle.roommates.proofs.Basics.{Below}
 use Rattle.roommates.proofs.StrikesCompose.{was-there, below-refl, below-trans}

@@ -10,12 +10,11 @@ use lib.ListN.{length, getD, set, length-set}
 use lib.Seq.{getD-set-same, getD-set-other}
 use borrow.Author.Tests.{eqb-true, eqb-false}
 use Rattle.sheet.specs.Square.{at}
-use Rattle.sheet.proofs.Cases.{case, both-ways, eq-ne}
+use Rattle.base.proofs.Cases.{case, both-ways, eq-ne, below-suc}
 use Rattle.roommates.specs.Lists.{Square, row}
 use Rattle.roommates.specs.PhaseOne.{proposed, proposeAll, receiveAll}
 use Rattle.roommates.proofs.Proposals.{State, Proposal}
 use Rattle.roommates.proofs.StrikesCompose.{was-there}
-use Rattle.roommates.proofs.Counts.{below-suc}
 use Rattle.roommates.proofs.Waiting.{StandsAt}
 use Rattle.roommates.proofs.Sound.{Sound, Shrunk, shrunk-refl, shrunk-trans, shrunk-sound}
 use Rattle.roommates.proofs.Proposed.{proposed-shrunk, proposed-elsewhere, proposed-strikes}

@@ -7,7 +7,7 @@ use native.Mathlib.Omega.{arith}
 use lib.ListN.{getD, set, length-set}
 use lib.Seq.{getD-set-same, getD-set-other}
 use Rattle.sheet.specs.Square.{at}
-use Rattle.sheet.proofs.Cases.{case, eq-ne}
+use Rattle.base.proofs.Cases.{case, eq-ne}
 use Rattle.roommates.specs.Lists.{row, bestBand}
 use Rattle.roommates.specs.PhaseOne.{Work, waits, step}
 use Rattle.roommates.proofs.Proposals.{State}

@@ -6,7 +6,7 @@ use Prim.Native.Nat.{ℕ, zero, suc}
 use lib.ListN.{length, getD, set, length-set}
 use lib.Seq.{getD-set-other}
 use Rattle.sheet.specs.Square.{at}
-use Rattle.sheet.proofs.Cases.{case, eq-ne}
+use Rattle.base.proofs.Cases.{case, eq-ne}
 use Rattle.roommates.specs.Lists.{Square, row, clear, struck}
 
 zero-set : (l : List ℕ) (i : ℕ) → getD (set l i 0) i 0 ≡ 0

@@ -1,7 +1,7 @@
 -- Strikes after strikes are strikes, and so are a trim and a proposal.
 use mathlib.Core.Path.{refl, _∙_}
 use Prim.Native.Nat.{ℕ, _<_}
-use Rattle.sheet.proofs.Cases.{case}
+use Rattle.base.proofs.Cases.{case}
 use Rattle.roommates.proofs.Basics.{Bands, Below}
 use Rattle.roommates.proofs.Proposals.{Trim, State, Proposal}
 

@@ -7,7 +7,7 @@ use Prim.Native.Nat.{ℕ, _≤_, _<_}
 use native.Mathlib.Omega.{arith}
 use lib.ListN.{length}
 use Rattle.sheet.specs.Square.{at, SquarePromise}
-use Rattle.sheet.proofs.Cases.{case}
+use Rattle.base.proofs.Cases.{case}
 use Rattle.matching.specs.Matchings.{partner, isSuperStable}
 use Rattle.matching.specs.Plain.{SuperStable}
 use Rattle.matching.specs.Plain as Plain

@@ -2,7 +2,7 @@
 use mathlib.Core.Path.{_≡_, sym, _∙_}
 use Prim.Native.Nat.{ℕ, suc, _≤_, _<_}
 use native.Mathlib.Omega.{arith}
-use Rattle.sheet.proofs.Cases.{case, lt-ge}
+use Rattle.base.proofs.Cases.{case, lt-ge}
 use Rattle.roommates.proofs.Basics.{Bands, Below, Stable, On}
 use Rattle.roommates.proofs.Proposals.{State, Proposal, Invariant}
 use Rattle.roommates.proofs.StrikesCompose.{was-there, below-trans}

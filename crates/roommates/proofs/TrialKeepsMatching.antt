@@ -3,7 +3,7 @@ use mathlib.Core.Path.{_≡_, sym, _∙_}
 use mathlib.Core.Logic.{_⊎_, inl, inr, _≢_}
 use Prim.Native.Nat.{ℕ, _<_}
 use native.Mathlib.Omega.{arith}
-use Rattle.sheet.proofs.Cases.{case, eq-ne}
+use Rattle.base.proofs.Cases.{case, eq-ne}
 use Rattle.roommates.proofs.Basics.{Bands, Stable, On}
 use Rattle.roommates.proofs.Proposals.{Trim}
 use Rattle.roommates.proofs.OnTrim.{On-trim}

@@ -3,7 +3,7 @@ use mathlib.Core.Path.{_≡_}
 use mathlib.Core.Logic.{inr, ⊎-map}
 use Prim.Native.Nat.{ℕ, _≤_, _<_}
 use native.Mathlib.Omega.{arith}
-use Rattle.sheet.proofs.Cases.{case}
+use Rattle.base.proofs.Cases.{case}
 use Rattle.roommates.proofs.Basics.{Bands, Below, Beaten, PhaseEnd}
 use Rattle.roommates.proofs.Proposals.{Trim}
 use Rattle.roommates.proofs.StrikesCompose.{was-there, below-trans, trim-below}

@@ -5,7 +5,7 @@ use mathlib.Core.List.{[]}
 use Prim.Native.Nat.{ℕ, _≤_, _<_}
 use native.Mathlib.Omega.{arith}
 use Rattle.sheet.specs.Square.{at}
-use Rattle.sheet.proofs.Cases.{case}
+use Rattle.base.proofs.Cases.{case}
 use Rattle.roommates.specs.Lists.{Square, row, worstBand, firstOn}
 use Rattle.roommates.specs.PhaseOne.{Work, fresh, phaseOne}
 use Rattle.roommates.specs.PhaseTwo.{trialStart, trial}
@@ -13,7 +13,7 @@ use Rattle.roommates.proofs.Basics.{Bands, Below, Stable, On}
 use Rattle.roommates.proofs.Proposals.{Trim}
 use Rattle.roommates.proofs.StrikesCompose.{below-trans, trim-below}
 use Rattle.roommates.proofs.Rows.{worst-most, worst-attained}
-use Rattle.roommates.proofs.Lowest.{first-best}
+use Rattle.roommates.proofs.FirstOn.{first-best}
 use Rattle.roommates.proofs.Tables.{Table}
 use Rattle.roommates.proofs.TrialKeepsTable.{trial-table}
 use Rattle.roommates.proofs.Sound.{Sound}

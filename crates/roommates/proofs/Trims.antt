@@ -7,13 +7,12 @@ use native.Mathlib.Omega.{arith}
 use lib.Dec.{ltb, eqb}
 use borrow.Author.Tests.{ltb-true, ltb-false, eqb-true, eqb-false}
 use Rattle.sheet.specs.Square.{at}
-use Rattle.sheet.proofs.Cases.{case, both-ways}
+use Rattle.base.proofs.Cases.{case, both-ways, below-suc}
 use Rattle.roommates.specs.Lists.{Square, row, struck, worstBand, strikeIf, strikeWorse, strikeBand}
 use Rattle.roommates.proofs.Basics.{Bands}
 use Rattle.roommates.proofs.Proposals.{Trim}
 use Rattle.roommates.proofs.StrikesCompose.{was-there}
 use Rattle.roommates.proofs.Strikes.{struck-pair, struck-other}
-use Rattle.roommates.proofs.Counts.{below-suc}
 use Rattle.roommates.proofs.Rows.{worst-most}
 use Rattle.roommates.proofs.Sound.{Sound, Shrunk, shrunk-refl, shrunk-trans, shrunk-sound, struck-shrunk}
 

@@ -5,7 +5,7 @@ use mathlib.Core.List.{List}
 use Prim.Native.Nat.{ℕ, _*_, _≤_}
 use native.Mathlib.Omega.{arith}
 use Rattle.sheet.specs.Square.{at}
-use Rattle.matching.proofs.TestParts.{never}
+use Rattle.base.proofs.Tests.{never}
 use Rattle.roommates.specs.Lists.{Square}
 use Rattle.roommates.specs.PhaseOne.{Work, someEmptied}
 use Rattle.roommates.specs.PhaseTwo.{Verdict, none-one, none-two, paired, End}

@@ -9,11 +9,13 @@ use lib.Dec.{eqb, leb}
 use lib.ListN.{getD}
 use borrow.Author.Tests.{leb-true, le-leb, eqb-true, eq-eqb, not-true, not-false}
 use Rattle.sheet.specs.Square.{at}
-use Rattle.sheet.proofs.Cases.{case, eq-ne, and-true}
-use Rattle.matching.proofs.TestParts.{never}
+use Rattle.base.proofs.Cases.{case, eq-ne}
+use Rattle.base.proofs.Tests.{and-true, never}
 use Rattle.roommates.specs.Lists.{Square, listLength}
 use Rattle.roommates.specs.PhaseOne.{stands, anyStands, listWaits, standingAt}
-use Rattle.roommates.proofs.Counts.{count, two-counted, count-two, Two, any, any-true, any-false}
+use Rattle.base.specs.Below.{countBelow, anyBelow}
+use Rattle.base.proofs.CountBelow.{two-counted, count-two, Two}
+use Rattle.base.proofs.AnyBelow.{any-true, any-none}
 use Rattle.roommates.proofs.Rows.{some-listed, listed-some}
 
 pub stands-facts : (k b : ℕ) → stands k b ≡ true → (0 < k) × (b ≡ k)
@@ -22,8 +24,8 @@ stands-facts k b h = let r : (leb 1 k ≡ true) × (eqb b k ≡ true) = and-true
 pub facts-stands : (k b : ℕ) → 0 < k → b ≡ k → stands k b ≡ true
 facts-stands k b h e = rw (le-leb 1 k h, eq-eqb b k e) refl
 
-any-stands : (n k : ℕ) (l : List ℕ) → anyStands n k l ≡ any n (λ j. stands k (getD l j 0))
-unfolding anyStands any
+any-stands : (n k : ℕ) (l : List ℕ) → anyStands n k l ≡ anyBelow n (λ j. stands k (getD l j 0))
+unfolding anyStands anyBelow
 any-stands zero k l = refl
 any-stands (suc i) k l = rw (any-stands i k l) refl
 
@@ -36,7 +38,7 @@ module _ (n k : ℕ) (l : List ℕ) where
   unfolding listWaits
   waits-standing h j m p e =
       let s : anyStands n k l ≡ false = not-true _ (and-true (leb 1 (listLength n l)) (not (anyStands n k l)) h .1) in
-      never _ (facts-stands k (getD l j 0) p e) (any-false n _ (sym (any-stands n k l) ∙ s) j m)
+      never _ (facts-stands k (getD l j 0) p e) (any-none n _ (sym (any-stands n k l) ∙ s) j m)
 
   pub not-waiting : listWaits n k l ≡ false → (j : ℕ) → j < n → 0 < getD l j 0 → (i : ℕ) × (i < n) × (0 < k) × (getD l i 0 ≡ k)
   unfolding listWaits
@@ -46,8 +48,8 @@ module _ (n k : ℕ) (l : List ℕ) where
       let f : (0 < k) × (getD l (r .0) 0 ≡ k) = stands-facts k (getD l (r .0) 0) (r .2) in
       (r .0, r .1, f .0, f .1)
 
-standing-count : (n : ℕ) (t : Square) (reach : List ℕ) (q : ℕ) → standingAt n t reach q ≡ count n (λ i. stands (getD reach i 0) (at t i q))
-unfolding standingAt count
+standing-count : (n : ℕ) (t : Square) (reach : List ℕ) (q : ℕ) → standingAt n t reach q ≡ countBelow n (λ i. stands (getD reach i 0) (at t i q))
+unfolding standingAt countBelow
 standing-count zero t reach q = refl
 standing-count (suc i) t reach q = rw (standing-count i t reach q) refl
 
@@ -66,6 +68,6 @@ module _ (n : ℕ) (t : Square) (reach : List ℕ) (q : ℕ) where
       case (eq-ne i j)
       (λ e. e)
       (λ e.
-      let c : 2 ≤ count n (λ i. stands (getD reach i 0) (at t i q))
+      let c : 2 ≤ countBelow n (λ i. stands (getD reach i 0) (at t i q))
       = count-two n _ i j l m e (facts-stands (getD reach i 0) (at t i q) (a .0) (a .1)) (facts-stands (getD reach j 0) (at t j q) (b .0) (b .1)) in
       omega (arith, standing-count n t reach q))

@@ -5,8 +5,8 @@ use mathlib.Core.Logic.{_⊎_, inl, inr}
 use mathlib.Core.List.{List}
 use Prim.Native.Nat.{ℕ, _*_, _≤_, _<_}
 use native.Mathlib.Omega.{arith}
-use Rattle.sheet.proofs.Cases.{case}
-use Rattle.matching.proofs.TestParts.{never}
+use Rattle.base.proofs.Cases.{case}
+use Rattle.base.proofs.Tests.{never}
 use Rattle.roommates.specs.Lists.{Square}
 use Rattle.roommates.specs.PhaseOne.{Work, Ran, fresh, phaseOne, fuel, waits, someEmptied}
 use Rattle.roommates.specs.PhaseTwo.{going, none-one, paired, End, ended, leftOver, phaseTwoFrom}

@@ -4,6 +4,7 @@ use mathlib.Core.List.{List, []}
 use Prim.Native.Nat.{ℕ, zero, suc, _+_, max}
 use lib.Dec.{eqb, ltb}
 use lib.ListN.{getD, set}
+use Rattle.base.specs.Below.{lowest}
 use Rattle.sheet.specs.Square.{at}
 
 abbrev pub Square : Type 0
@@ -40,16 +41,6 @@ worstBand (suc i) l = max (worstBand i l) (getD l i 0)
 unfoldable pub bandSize : ℕ → ℕ → List ℕ → ℕ
 bandSize zero k l = 0
 bandSize (suc i) k l = bandSize i k l + cond (eqb (getD l i 0) k) 1 0
-
--- the lowest joint below n that passes a test; n where none does
-unfoldable pub lowestFrom : ℕ → ℕ → (ℕ → Bool) → ℕ
-lowestFrom zero i test = i
-lowestFrom (suc f) i test =
-    let rest = lowestFrom f (suc i) test in
-    cond (test i) i rest
-
-abbrev pub lowest : ℕ → (ℕ → Bool) → ℕ
-lowest n test = lowestFrom n 0 test
 
 -- first on a list: the lowest joint of its best band
 unfoldable pub firstOn : ℕ → List ℕ → ℕ

@@ -5,7 +5,8 @@ use Prim.Native.Nat.{ℕ, zero, suc, _+_, _*_}
 use lib.Dec.{eqb, ltb, leb}
 use lib.ListN.{getD, set, replicate}
 use Rattle.sheet.specs.Square.{at}
-use Rattle.roommates.specs.Lists.{Square, row, listLength, bestBand, bandSize, lowest, strikeWorse, strikeBand}
+use Rattle.roommates.specs.Lists.{Square, row, listLength, bestBand, bandSize, strikeWorse, strikeBand}
+use Rattle.base.specs.Below.{lowest}
 
 -- A working: the lists, for each joint the band that it last proposed to (0 before its first step),
 -- whether it ever received a proposal (1 or 0), the proposals made and the cuts.

@@ -4,7 +4,8 @@ use mathlib.Core.List.{List, []}
 use Prim.Native.Nat.{ℕ, zero, suc}
 use lib.Dec.{eqb, ltb, leb}
 use lib.ListN.{length, getD}
-use Rattle.roommates.specs.Lists.{Square, row, listLength, worstBand, firstOn, lowest, strikeBand}
+use Rattle.roommates.specs.Lists.{Square, row, listLength, worstBand, firstOn, strikeBand}
+use Rattle.base.specs.Below.{lowest}
 use Rattle.roommates.specs.PhaseOne.{Work, work, fresh, phaseOne}
 
 -- a trial: v's pairs with v's worst band are struck, then phase one runs afresh, with no choices

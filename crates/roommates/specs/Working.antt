@@ -4,7 +4,8 @@ use mathlib.Core.List.{List, [], _∷_, _++_}
 use Prim.Native.Nat.{ℕ, zero, suc, _+_, _/_, _%_}
 use lib.Dec.{eqb, leb}
 use lib.ListN.{getD}
-use Rattle.roommates.specs.Lists.{Square, row, listLength, lowest}
+use Rattle.roommates.specs.Lists.{Square, row, listLength}
+use Rattle.base.specs.Below.{lowest}
 use Rattle.roommates.specs.PhaseOne.{Ran, fresh, phaseOne, fuel, someEmptied}
 use Rattle.roommates.specs.PhaseTwo.{going, none-one, paired, End, ended, leftOver, phaseTwoFrom}
 

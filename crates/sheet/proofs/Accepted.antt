@@ -8,8 +8,9 @@ use native.Mathlib.Omega.{arith}
 use lib.ListN.{length, getD, length-drop}
 use borrow.Author.Tests.{ltb-false, eqb-false}
 use Rattle.sheet.specs.Format.{joints, labelsPart, countStart, rankCount, rankStart, rankingsPart}
-use Rattle.sheet.specs.Refusals.{anyBelow, labelBad, labelsFault, entriesFault, unreturned, rankingsFault, sheetFault}
-use Rattle.sheet.proofs.AnyBelow.{first-none, when-none}
+use Rattle.sheet.specs.Refusals.{labelBad, labelsFault, entriesFault, unreturned, rankingsFault, sheetFault}
+use Rattle.base.specs.Below.{anyBelow}
+use Rattle.sheet.proofs.FirstFaults.{first-none, when-none}
 
 -- the labels' section, with its count n
 pub record LabelsAccepted (n : ℕ) (part : List ℕ) : Type 0 where

@@ -8,7 +8,7 @@ use borrow.Author.Tests.{eq-eqb, ne-eqb}
 use Rattle.sheet.specs.declared.Entry.{Entry}
 use Rattle.sheet.specs.Format.{bandIn}
 use Rattle.sheet.specs.Promise.{entryOf}
-use Rattle.sheet.proofs.Cases.{case, eq-ne}
+use Rattle.base.proofs.Cases.{case, eq-ne}
 use Rattle.sheet.proofs.Places.{Here, Elsewhere, Nowhere}
 
 pub band-here : (e : Entry) (es : List Entry) (a b : ℕ) → Here e a b → bandIn (e ∷ es) a b ≡ e .band

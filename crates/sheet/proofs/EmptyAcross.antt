@@ -3,9 +3,10 @@ use mathlib.Core.Path.{_≡_}
 use mathlib.Core.List.{List}
 use Prim.Native.Nat.{ℕ, _≤_}
 use Rattle.sheet.specs.Format.{entryIn}
-use Rattle.sheet.specs.Refusals.{anyBelow, entriesFault, unreturned}
+use Rattle.sheet.specs.Refusals.{entriesFault, unreturned}
+use Rattle.base.specs.Below.{anyBelow}
 use Rattle.sheet.specs.Square.{squareUpTo, emptyAcross}
-use Rattle.sheet.proofs.AnyBelow.{any-cong}
+use Rattle.base.proofs.AnyBelow.{any-cong}
 use Rattle.sheet.proofs.SquareIsEntries.{square-entries}
 
 across : (m n : ℕ) (part : List ℕ) → entriesFault m n part ≡ 0 → n ≤ 128

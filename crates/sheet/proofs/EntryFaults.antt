@@ -11,8 +11,9 @@ use Rattle.sheet.specs.declared.Entry.{Entry}
 use Rattle.sheet.specs.Format.{entryIn}
 use Rattle.sheet.specs.Refusals.{after, outside, noBand, misplaced, entryFault, entriesFault}
 use Rattle.sheet.specs.Promise.{Before}
-use Rattle.sheet.proofs.Cases.{case, lt-ge, eq-ne, or-false, and-true, or-true}
-use Rattle.sheet.proofs.AnyBelow.{first-none, when-none}
+use Rattle.base.proofs.Cases.{case, lt-ge, eq-ne}
+use Rattle.base.proofs.Tests.{or-false, and-true, or-true}
+use Rattle.sheet.proofs.FirstFaults.{first-none, when-none}
 
 -- an entry of a sheet with n joints
 pub record Sound (n : ℕ) (e : Entry) : Type 0 where

@@ -1,6 +1,5 @@
 -- Laws of the definitions, and what an accepted sheet promises.
-pub mod Cases
-pub mod AnyBelow
+pub mod FirstFaults
 pub mod LabelLaws
 pub mod RankingLaws
 pub mod EntryFaults

@@ -7,7 +7,7 @@ use native.Mathlib.Omega.{arith}
 use Rattle.sheet.specs.declared.Entry.{Entry}
 use Rattle.sheet.specs.Format.{entryIn}
 use Rattle.sheet.specs.Refusals.{entriesFault}
-use Rattle.sheet.proofs.Cases.{case, eq-ne}
+use Rattle.base.proofs.Cases.{case, eq-ne}
 use Rattle.sheet.proofs.EntryFaults.{one-place}
 
 -- e has the place (a, b); or it has not

@@ -8,11 +8,12 @@ use native.Mathlib.Omega.{arith}
 use lib.ListN.{length}
 use borrow.Author.Tests.{eqb-false}
 use Rattle.sheet.specs.Format.{joints, rankCount, rankingsPart, entryIn, entriesFrom, entriesOf, bandIn}
-use Rattle.sheet.specs.Refusals.{anyBelow, entriesFault, unreturned, sheetFault}
+use Rattle.sheet.specs.Refusals.{entriesFault, unreturned, sheetFault}
+use Rattle.base.specs.Below.{anyBelow}
 use Rattle.sheet.specs.Square.{at, squareUpTo, squareOf, SquarePromise}
 use Rattle.sheet.specs.Promise.{entryOf, Before, Promise}
-use Rattle.sheet.proofs.Cases.{case}
-use Rattle.sheet.proofs.AnyBelow.{any-none}
+use Rattle.base.proofs.Cases.{case}
+use Rattle.base.proofs.AnyBelow.{any-none}
 use Rattle.sheet.proofs.EntryFaults.{Sound, entry-sound, ascend}
 use Rattle.sheet.proofs.Entries.{length-entries, entry-at}
 use Rattle.sheet.proofs.Places.{Here, Somewhere, seek}
@@ -38,7 +39,7 @@ mutual-entries : (m : ℕ) (part : List ℕ) → anyBelow m (unreturned m part) 
     → (a b : ℕ) → 0 < bandIn (entriesFrom m 0 part) a b → 0 < bandIn (entriesFrom m 0 part) b a
 mutual-entries m part h a b listed =
     let (j, l, here) = listed-by m part a b listed in
-    returned-at m part j (any-none m (unreturned m part) j h l) a b here
+    returned-at m part j (any-none m (unreturned m part) h j l) a b here
 
 module _ (m n : ℕ) (part : List ℕ) (clean : entriesFault m n part ≡ 0) where
   -- entry j of the list

@@ -7,7 +7,7 @@ use lib.ListN.{length, getD, set, length-set}
 use lib.Seq.{getD-set-same, getD-set-other, set-out}
 use Rattle.sheet.specs.declared.Entry.{Entry}
 use Rattle.sheet.specs.Square.{at, put}
-use Rattle.sheet.proofs.Cases.{case, lt-ge, eq-ne}
+use Rattle.base.proofs.Cases.{case, lt-ge, eq-ne}
 use Rattle.sheet.proofs.Places.{Elsewhere}
 
 -- the row of the entry's joint, and the others, also past the end

@@ -8,7 +8,7 @@ use native.Mathlib.Omega.{arith}
 use Rattle.sheet.specs.Format.{entryIn}
 use Rattle.sheet.specs.Refusals.{firstOf, after, misplaced, entryFault, entriesFault}
 use Rattle.sheet.specs.Square.{put, blank, squareUpTo}
-use Rattle.sheet.proofs.Cases.{case, eq-ne}
+use Rattle.base.proofs.Cases.{case, eq-ne}
 
 pub misplaced-later : (part : List ℕ) (j : ℕ) → (j ≡ 0 → ⊥) → not (after (entryIn part j) (entryIn part (j - 1))) ≡ misplaced part j
 misplaced-later part zero h = absurd (h refl)

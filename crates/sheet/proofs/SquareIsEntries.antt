@@ -8,7 +8,7 @@ use Rattle.sheet.specs.declared.Entry.{Entry}
 use Rattle.sheet.specs.Format.{entryIn, entriesFrom, bandIn}
 use Rattle.sheet.specs.Refusals.{entriesFault}
 use Rattle.sheet.specs.Square.{at, squareUpTo}
-use Rattle.sheet.proofs.Cases.{case}
+use Rattle.base.proofs.Cases.{case}
 use Rattle.sheet.proofs.Entries.{length-entries, entry-at}
 use Rattle.sheet.proofs.Places.{Here, Nowhere, seek, others-elsewhere}
 use Rattle.sheet.proofs.BandIn.{band-nowhere, band-first}

@@ -7,8 +7,8 @@ use lib.ListN.{length, getD, replicate, length-replicate, getD-replicate, List·
 use Rattle.sheet.specs.Format.{entryIn}
 use Rattle.sheet.specs.Refusals.{entriesFault, entryFault}
 use Rattle.sheet.specs.Square.{at, squareUpTo}
-use Rattle.sheet.proofs.Cases.{case, lt-ge, eq-ne}
-use Rattle.sheet.proofs.AnyBelow.{first-none}
+use Rattle.base.proofs.Cases.{case, lt-ge, eq-ne}
+use Rattle.sheet.proofs.FirstFaults.{first-none}
 use Rattle.sheet.proofs.EntryFaults.{entry-fits}
 use Rattle.sheet.proofs.Places.{Here, Nowhere, others-elsewhere}
 use Rattle.sheet.proofs.PutOnePlace.{put-here, put-elsewhere, put-rows, put-row}

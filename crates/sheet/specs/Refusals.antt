@@ -4,21 +4,15 @@ use mathlib.Core.List.{List, [], _∷_}
 use Prim.Native.Nat.{ℕ, zero, suc, _*_}
 use lib.Dec.{eqb, ltb, leb}
 use lib.ListN.{length, drop}
+use Rattle.base.specs.Below.{anyBelow}
+use Rattle.base.specs.Faults.{when}
 use Rattle.sheet.specs.declared.Entry.{Entry}
 use Rattle.sheet.specs.Format.{joints, labelsPart, rankCount, rankStart, rankingsPart, labelIn, entryIn, entriesFrom, bandIn}
 
--- the number if the test holds; the first of two faults
-abbrev pub when : Bool → ℕ → ℕ
-when test number = cond test number 0
-
+-- the first of two faults
 abbrev pub firstOf : ℕ → ℕ → ℕ
 firstOf zero b = b
 firstOf (suc a) b = suc a
-
--- does some number below n pass the test?
-unfoldable pub anyBelow : ℕ → (ℕ → Bool) → Bool
-anyBelow zero test = false
-anyBelow (suc i) test = anyBelow i test || test i
 
 -- A label: one or more bytes from 33 to 126, then zero bytes to the end.
 abbrev pub visible : ℕ → Bool

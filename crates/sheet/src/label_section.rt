@@ -4,7 +4,8 @@ ghost use mathlib.Core.Path.{_≡_};
 ghost use Prim.Native.Nat.{_+_, _*_, _<_, _≤_};
 ghost use lib.ListN.{length, drop};
 ghost use Rattle.sheet.specs.Format.{labelAt};
-ghost use Rattle.sheet.specs.Refusals.{visible, visibleRun, allZero, labelOk, repeats, labelBad, anyBelow};
+ghost use Rattle.sheet.specs.Refusals.{visible, visibleRun, allZero, labelOk, repeats, labelBad};
+ghost use Rattle.base.specs.Below.{anyBelow};
 ghost use Rattle.sheet.specs.Readings.{labelsReading};
 
 fn is_visible(b: u8) -> bool

@@ -3,6 +3,7 @@ pub mod label_section;
 pub mod opened;
 mod ranking_section;
 
+use base::wide;
 ghost use mathlib.Core.Path.{_≡_};
 ghost use Prim.Native.Nat.{_<_};
 ghost use Rattle.sheet.specs.Format.{rankCount, rankStart};
@@ -40,14 +41,6 @@ pub struct Entry {
     pub joint: usize,
     pub other: usize,
     pub band: u8,
-}
-
-// A byte as a number that sums and products fit.
-pub fn wide(x: u8) -> usize
-    ensures { λ r. ⌜ r ≡ x ⌝ }
-    ensures { λ r. ⌜ r < 256 ⌝ }
-{
-    x as usize
 }
 
 fn labels_number(found: Labels) -> u8

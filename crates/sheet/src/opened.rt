@@ -1,6 +1,6 @@
 // An opened sheet: the lent bytes, and where the labels and the entries begin in them.
 use crate::label_section::label_at;
-use crate::wide;
+use base::wide;
 ghost use mathlib.Core.Path.{_≡_};
 ghost use Prim.Native.Nat.{_+_, _*_, _<_, _≤_};
 ghost use lib.ListN.{length};

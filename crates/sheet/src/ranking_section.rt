@@ -1,12 +1,13 @@
 // The rankings' section.
 use crate::Entry;
 use crate::Rankings;
-use crate::wide;
+use base::wide;
 ghost use mathlib.Core.Path.{_≡_};
 ghost use Prim.Native.Nat.{ℕ, _+_, _*_, _<_, _≤_};
 ghost use lib.ListN.{length};
 ghost use Rattle.sheet.specs.Format.{entryIn};
-ghost use Rattle.sheet.specs.Refusals.{outside, noBand, after, misplaced, entryFault, entriesFault, anyBelow};
+ghost use Rattle.sheet.specs.Refusals.{outside, noBand, after, misplaced, entryFault, entriesFault};
+ghost use Rattle.base.specs.Below.{anyBelow};
 ghost use Rattle.sheet.specs.Readings.{rankingsReading};
 ghost use Rattle.sheet.specs.Square.{squareUpTo, emptyAcross};
 

@@ -22,7 +22,7 @@ fn write_reading(found: Reading) {
         }
         Reading::Refused(number) => {
             io::write_all(1, b": refused");
-            write_number(sheet::wide(number));
+            write_number(base::wide(number));
         }
     }
     io::write_all(1, b"\n");
@@ -51,7 +51,7 @@ pub(crate) fn label(buf: &[u8], i: usize) {
 fn write_place(bands: [[u8; 128]; 128], a: usize, b: usize) {
     if a < 128 {
         if b < 128 {
-            write_number(sheet::wide(bands[a][b]));
+            write_number(base::wide(bands[a][b]));
         }
     }
 }

@@ -1,7 +1,7 @@
 -- Each return is one rewrite by the tests that led there.
 use borrow.Author.Needs.{needs}
 use Rattle.matching.specs.Matchings.{isApart}
-use Rattle.matching.proofs.TestParts.{unlisted, listed}
+use Rattle.base.proofs.Tests.{unlisted, listed}
 use Rattle.matching.proofs.is_apart.Statement.{statement}
 use Rattle.matching.proofs.is_apart.Tie as tie
 

@@ -4,7 +4,7 @@ use mathlib.Core.Logic.{⊎-elim}
 use Prim.Native.Nat.{_≤_, _-_}
 use native.Mathlib.Omega.{arith}
 use Rattle.roommates.specs.PhaseTwo.{noneEmptied}
-use Rattle.phases.proofs.LawsPhaseOne.{said-yes, said-no}
+use Rattle.base.proofs.Tests.{said-yes, said-no}
 use Rattle.phases.proofs.LawsCuts.{none-hit, none-miss}
 use Rattle.phases.proofs.cuts.none_emptied.Statement.{statement}
 use Rattle.phases.proofs.cuts.none_emptied.Tie as tie

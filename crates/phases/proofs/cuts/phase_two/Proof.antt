@@ -6,7 +6,8 @@ use native.Mathlib.Omega.{arith}
 use borrow.Author.Tests.{ltb-true}
 use Rattle.roommates.specs.PhaseOne.{work}
 use Rattle.roommates.specs.PhaseTwo.{phaseTwoFrom}
-use Rattle.phases.proofs.LawsPhaseOne.{square-small, and-first, said-yes, said-no}
+use Rattle.phases.proofs.LawsPhaseOne.{square-small, and-first}
+use Rattle.base.proofs.Tests.{said-yes, said-no}
 use Rattle.phases.proofs.LawsPhaseTwo.{end-is, two-ends, two-refuses, two-none, two-cuts, two-runs-out, all-cuts}
 use Rattle.phases.proofs.cuts.phase_two.Statement.{statement}
 use Rattle.phases.proofs.cuts.phase_two.Tie as tie

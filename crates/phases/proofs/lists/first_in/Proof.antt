@@ -6,8 +6,8 @@ use native.Mathlib.Nat.{sub-zero}
 use lib.Dec.{eqb}
 use lib.ListN.{getD}
 use borrow.Author.Tests.{eq-eqb, ne-eqb}
-use Rattle.roommates.specs.Lists.{lowest, lowestFrom}
-use Rattle.phases.proofs.LawsLowest.{lowest-hit, lowest-miss, lowest-none}
+use Rattle.base.specs.Below.{lowest, lowestFrom}
+use Rattle.base.proofs.Lowest.{lowest-hit, lowest-miss, lowest-none}
 use Rattle.phases.proofs.lists.first_in.Statement.{statement}
 use Rattle.phases.proofs.lists.first_in.Tie as tie
 

@@ -2,7 +2,7 @@
 use mathlib.Core.Path.{sym, _∙_}
 use lib.ListN.{List·getD-eq-default}
 use borrow.Author.Needs.{needs}
-use Rattle.phases.proofs.LawsPhaseOne.{getD-inside}
+use Rattle.base.proofs.Places.{getD-inside}
 use Rattle.phases.proofs.proposals.chosen.Statement.{statement}
 use Rattle.phases.proofs.proposals.chosen.Tie as tie
 

@@ -6,7 +6,8 @@ use mathlib.Core.Bool.{false}
 use borrow.Author.Tests.{ltb-true}
 use native.Mathlib.Nat.{sub-zero}
 use Rattle.roommates.specs.PhaseOne.{work, phaseOneFrom}
-use Rattle.phases.proofs.LawsPhaseOne.{square-small, step-few, one-ends, one-refuses, one-steps, one-runs-out, all-turns, and-first, said-yes, said-no}
+use Rattle.phases.proofs.LawsPhaseOne.{square-small, step-few, one-ends, one-refuses, one-steps, one-runs-out, all-turns, and-first}
+use Rattle.base.proofs.Tests.{said-yes, said-no}
 use Rattle.phases.proofs.proposals.phase_one.Statement.{statement}
 use Rattle.phases.proofs.proposals.phase_one.Tie as tie
 

@@ -4,7 +4,7 @@ use native.Mathlib.Omega.{arith}
 use borrow.Author.Needs.{needs}
 use borrow.Author.Tests.{eq-eqb, ne-eqb}
 use Rattle.roommates.specs.Working.{partnerOn}
-use Rattle.phases.proofs.LawsLowest.{lowest-small}
+use Rattle.base.proofs.Lowest.{lowest-at-most}
 use borrow.Author.Needs.{needs}
 use Rattle.phases.proofs.results.partner_on.Statement.{statement}
 use Rattle.phases.proofs.results.partner_on.Tie as tie
@@ -20,7 +20,7 @@ first-listed-requires : tie.Need-first-listed-requires
 first-listed-requires c κs = search needs
 
 cast-result : tie.Need-cast-result
-cast-result c = let small : c .first-listed .result ≤ c .before .before .before .args .n = rw (c .first-listed .ensures) (lowest-small _ _) in
+cast-result c = let small : c .first-listed .result ≤ c .before .before .before .args .n = rw (c .first-listed .ensures) (lowest-at-most _ _) in
     omega (arith, c .before .before .before .pre)
 
 returns-2 : tie.Need-returns-2

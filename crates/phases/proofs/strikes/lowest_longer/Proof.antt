@@ -3,8 +3,8 @@ use mathlib.Core.Path.{_≡_}
 use Prim.Native.Nat.{_≤_, _-_}
 use native.Mathlib.Omega.{arith}
 use native.Mathlib.Nat.{sub-zero}
-use Rattle.roommates.specs.Lists.{lowest, lowestFrom}
-use Rattle.phases.proofs.LawsLowest.{lowest-hit, lowest-miss, lowest-none}
+use Rattle.base.specs.Below.{lowest, lowestFrom}
+use Rattle.base.proofs.Lowest.{lowest-hit, lowest-miss, lowest-none}
 use borrow.Author.Tests.{le-leb, lt-leb}
 use Rattle.roommates.specs.PhaseTwo.{longer}
 use Rattle.phases.proofs.strikes.lowest_longer.Statement.{statement}

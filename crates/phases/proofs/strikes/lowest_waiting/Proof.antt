@@ -3,8 +3,9 @@ use mathlib.Core.Path.{_≡_, sym, _∙_}
 use Prim.Native.Nat.{_≤_, _-_}
 use native.Mathlib.Omega.{arith}
 use native.Mathlib.Nat.{sub-zero}
-use Rattle.roommates.specs.Lists.{lowest, lowestFrom, row}
-use Rattle.phases.proofs.LawsLowest.{lowest-hit, lowest-miss, lowest-none}
+use Rattle.roommates.specs.Lists.{row}
+use Rattle.base.specs.Below.{lowest, lowestFrom}
+use Rattle.base.proofs.Lowest.{lowest-hit, lowest-miss, lowest-none}
 use lib.ListN.{getD}
 use Rattle.roommates.specs.PhaseOne.{listWaits}
 use Rattle.phases.proofs.strikes.lowest_waiting.Statement.{statement}

@@ -1,9 +1,10 @@
-use Rattle.sheet.proofs.AnyBelow.{any-end, any-hit, any-next, any-zero}
+use Rattle.base.proofs.AnyBelow.{any-end, any-hit, any-next, any-zero}
 use mathlib.Core.Path.{_≡_, sym, _∙_}
 use mathlib.Core.Bool.{false}
 use Prim.Native.Nat.{_-_, _≤_}
 use native.Mathlib.Omega.{arith}
-use Rattle.sheet.specs.Refusals.{repeats, anyBelow}
+use Rattle.sheet.specs.Refusals.{repeats}
+use Rattle.base.specs.Below.{anyBelow}
 use Rattle.sheet.proofs.label_section.repeats_any.Statement.{statement}
 use Rattle.sheet.proofs.label_section.repeats_any.Tie as tie
 

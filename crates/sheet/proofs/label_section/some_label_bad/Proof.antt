@@ -2,8 +2,9 @@ use mathlib.Core.Path.{_≡_, sym, _∙_}
 use mathlib.Core.Bool.{false}
 use Prim.Native.Nat.{_-_, _≤_}
 use native.Mathlib.Omega.{arith}
-use Rattle.sheet.specs.Refusals.{labelBad, anyBelow}
-use Rattle.sheet.proofs.AnyBelow.{any-hit, any-next, any-zero, any-end}
+use Rattle.sheet.specs.Refusals.{labelBad}
+use Rattle.base.specs.Below.{anyBelow}
+use Rattle.base.proofs.AnyBelow.{any-hit, any-next, any-zero, any-end}
 use Rattle.sheet.proofs.label_section.some_label_bad.Statement.{statement}
 use Rattle.sheet.proofs.label_section.some_label_bad.Tie as tie
 

@@ -3,8 +3,8 @@ use mathlib.Core.Bool.{false}
 use Prim.Native.Nat.{_-_, _≤_}
 use native.Mathlib.Omega.{arith}
 use Rattle.sheet.specs.Square.{emptyAcross}
-use Rattle.sheet.specs.Refusals.{anyBelow}
-use Rattle.sheet.proofs.AnyBelow.{any-hit, any-next, any-zero, any-end}
+use Rattle.base.specs.Below.{anyBelow}
+use Rattle.base.proofs.AnyBelow.{any-hit, any-next, any-zero, any-end}
 use Rattle.sheet.proofs.ranking_section.some_empty_across.Statement.{statement}
 use Rattle.sheet.proofs.ranking_section.some_empty_across.Tie as tie
 

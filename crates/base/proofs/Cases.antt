@@ -1,8 +1,9 @@
--- Case distinctions on tests.
+-- Case distinctions.
 use mathlib.Core.Path.{_≡_, refl}
-use mathlib.Core.Bool.{Bool, true, false, _&&_, _||_, true≢false, false≢true}
+use mathlib.Core.Bool.{Bool, true, false}
 use mathlib.Core.Logic.{_⊎_, inl, inr, _≢_}
-use Prim.Native.Nat.{ℕ, _≤_, _<_}
+use Prim.Native.Nat.{ℕ, suc, _≤_, _<_}
+use native.Mathlib.Omega.{arith}
 use lib.Dec.{ltb, eqb}
 use borrow.Author.Tests.{ltb-true, ltb-false, eqb-true, eqb-false}
 
@@ -22,15 +23,10 @@ lt-ge a b = case (both-ways (ltb a b)) (λ h. inl (ltb-true a b h)) (λ h. inr (
 pub eq-ne : (a b : ℕ) → (a ≡ b) ⊎ (a ≢ b)
 eq-ne a b = case (both-ways (eqb a b)) (λ h. inl (eqb-true a b h)) (λ h. inr (eqb-false a b h))
 
--- what a joint test tells of its parts
-pub or-false : (a b : Bool) → (a || b) ≡ false → (a ≡ false) × (b ≡ false)
-or-false true b h = absurd (true≢false h)
-or-false false b h = (refl, h)
+-- a number below suc i is i or below it
+pub below-suc : {j i : ℕ} → j < suc i → (j ≡ i) ⊎ (j < i)
+below-suc {j} {i} h = case (eq-ne j i) inl (λ e. inr (omega arith))
 
-pub and-true : (a b : Bool) → (a && b) ≡ true → (a ≡ true) × (b ≡ true)
-and-true true b h = (refl, h)
-and-true false b h = absurd (false≢true h)
-
-pub or-true : (a b : Bool) → (a || b) ≡ true → (a ≡ true) ⊎ (b ≡ true)
-or-true true b h = inl refl
-or-true false b h = inr h
+-- two constructors that are equal tell, by cc, that 0 is 1
+pub unlike : _≡_ {A = ℕ} 0 1 → ⊥
+unlike z = omega arith

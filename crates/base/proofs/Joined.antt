@@ -1,0 +1,36 @@
+-- Laws of `joined`.
+use mathlib.Core.Path.{_≡_, refl, ap₂, _∙_}
+use mathlib.Core.List.{List, [], _++_}
+use Prim.Native.Nat.{ℕ, zero, suc, _+_, _≤_, _<_}
+use native.Mathlib.Numerals.{add-one}
+use native.Mathlib.Omega.{arith}
+use lib.ListN.{length, length-append}
+use Rattle.base.specs.Below.{joined, sumBelow}
+use Rattle.base.proofs.SumBelow.{sum-next, sum-grows}
+
+-- in a loop
+pub joined-zero : (part : ℕ → List ℕ) → joined 0 part ≡ []
+unfolding joined
+joined-zero part = refl
+
+pub joined-next : (i : ℕ) (part : ℕ → List ℕ) → joined (i + 1) part ≡ joined i part ++ part i
+unfolding joined
+joined-next i part = rw (add-one i)
+
+pub joined-length : (n : ℕ) (part : ℕ → List ℕ) → length (joined n part) ≡ sumBelow n (λ i. length (part i))
+unfolding joined sumBelow
+joined-length zero part = refl
+joined-length (suc i) part = length-append (joined i part) (part i) ∙ ap₂ _+_ (joined-length i part) refl
+
+pub joined-same : (n : ℕ) (f g : ℕ → List ℕ) → ((i : ℕ) → i < n → f i ≡ g i) → joined n f ≡ joined n g
+unfolding joined
+joined-same zero f g h = refl
+joined-same (suc i) f g h = ap₂ _++_ (joined-same i f g (λ j l. h j (omega arith))) (h i (omega arith))
+
+-- part i lies within the whole
+pub joined-within : (n : ℕ) (part : ℕ → List ℕ) (i : ℕ) → i < n → length (joined i part) + length (part i) ≤ length (joined n part)
+joined-within n part i h =
+    let f : ℕ → ℕ = λ j. length (part j) in
+    let next : sumBelow (i + 1) f ≡ sumBelow i f + f i = sum-next i f in
+    let grows : sumBelow (i + 1) f ≤ sumBelow n f = sum-grows n (i + 1) f (omega arith) in
+    omega (arith, joined-length i part, joined-length n part)
