@@ -14,10 +14,10 @@ use Rattle.roommates.specs.Lists.{Square, row, listLength}
 use Rattle.roommates.specs.Working.{partnerOn, pairingOf}
 use Rattle.base.proofs.Cases.{case, lt-ge}
 use Rattle.roommates.proofs.PairsWritten.{partner-none, partner-some, pairing-length, pairing-at}
-use Rattle.pairing.specs.declared.Phase.{Phase}
-use Rattle.pairing.specs.declared.End.the-variants as E
-use Rattle.pairing.specs.declared.Settled.the-variants as S
-use Rattle.pairing.specs.Calls.{settleOr, settleBytes, partnersOf}
+use Rattle.calls.specs.declared.Phase.{Phase}
+use Rattle.calls.specs.declared.End.the-variants as E
+use Rattle.calls.specs.declared.Settled.the-variants as S
+use Rattle.calls.specs.Calls.{settleOr, settleBytes, partnersOf}
 use Rattle.listing.specs.Text.{partner, pairingText, noneText, refusedText}
 use Rattle.listing.specs.Sheets.{phaseNumber, answer, sheetText}
 

@@ -8,7 +8,7 @@ use native.Mathlib.Numerals.{add-one}
 use native.Mathlib.Omega.{arith}
 use lib.ListN.{length, getD, set, take, length-append}
 use lib.Seq.{sets, sets-eq, take-suc}
-use Rattle.pairing.specs.Calls.{over}
+use Rattle.calls.specs.Calls.{over}
 use Rattle.listing.specs.Written.{written, Wrote}
 
 -- a then b behind it is a ++ b

@@ -4,12 +4,12 @@ use Prim.Native.Nat.{ℕ}
 use lib.ListN.{replicate}
 use Rattle.sheet.specs.Format.{joints}
 use Rattle.sheet.specs.Square.{squareOf}
-use Rattle.pairing.specs.declared.Phase.{Phase}
-use Rattle.pairing.specs.declared.Phase.the-variants as P
-use Rattle.pairing.specs.declared.End.the-variants as E
-use Rattle.pairing.specs.declared.Settled.{Settled}
-use Rattle.pairing.specs.declared.Settled.the-variants as S
-use Rattle.pairing.specs.Calls.{settleAnswer, partnersOf}
+use Rattle.calls.specs.declared.Phase.{Phase}
+use Rattle.calls.specs.declared.Phase.the-variants as P
+use Rattle.calls.specs.declared.End.the-variants as E
+use Rattle.calls.specs.declared.Settled.{Settled}
+use Rattle.calls.specs.declared.Settled.the-variants as S
+use Rattle.calls.specs.Calls.{settleAnswer, partnersOf}
 use Rattle.listing.specs.Text.{pairingText, noneText, refusedText}
 
 abbrev pub phaseNumber : Phase → ℕ

@@ -3,16 +3,16 @@ mod lines;
 mod page;
 
 use base::wide;
+use calls::End;
+use calls::Phase;
+use calls::Settled;
+use calls::settle::settle;
 use page::write_number_line;
-use pairing::End;
-use pairing::Phase;
-use pairing::Settled;
-use pairing::calls::settle;
 ghost use mathlib.Core.Path.{_≡_};
 ghost use mathlib.Core.Logic.{_≢_};
 ghost use Prim.Native.Nat.{ℕ, _+_, _*_, _<_, _≤_};
 ghost use lib.ListN.{length, take};
-ghost use Rattle.pairing.specs.Calls.{over};
+ghost use Rattle.calls.specs.Calls.{over};
 ghost use Rattle.listing.specs.Text.{partner, pairingText, noneText, refusedText};
 ghost use Rattle.listing.specs.Sheets.{phaseNumber, sheetText};
 

@@ -5,5 +5,3 @@ pub mod BlockingTest
 pub mod LowestPair
 pub mod SuperStableTest
 pub mod Turns
-pub mod SheetReadings
-pub mod CheckMeans

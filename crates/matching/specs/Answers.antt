@@ -1,11 +1,8 @@
--- What the call check answers, with document 01's numbers.
+-- What an offered pairing is worth, with document 01's numbers.
 use mathlib.Core.Bool.{cond}
 use mathlib.Core.List.{List}
 use mathlib.Core.Option.{Option, none, some}
-use Prim.Native.Nat.{ℕ, zero, suc}
-use Rattle.sheet.specs.Format.{joints}
-use Rattle.sheet.specs.Refusals.{sheetFault}
-use Rattle.sheet.specs.Square.{squareOf}
+use Prim.Native.Nat.{ℕ}
 use Rattle.matching.specs.declared.Checked.{Checked}
 use Rattle.matching.specs.declared.Checked.the-variants.{Refused, Holds, Blocked}
 use Rattle.matching.specs.Matchings.{isMatching, blockingPair}
@@ -20,11 +17,3 @@ unfoldable pub offerOf : ℕ → List (List ℕ) → List ℕ → Checked
 offerOf n t m =
     let verdict = verdictOf (blockingPair n t m) in
     cond (isMatching n t m) verdict (Refused 10)
-
--- over any sheet s: its own refusal first
-abbrev pub checkedOr : List ℕ → List ℕ → ℕ → Checked
-checkedOr s m zero = offerOf (joints s) (squareOf s) m
-checkedOr s m (suc k) = Refused (suc k)
-
-abbrev pub checkOf : List ℕ → List ℕ → Checked
-checkOf s m = checkedOr s m (sheetFault s)

@@ -3,7 +3,7 @@ ghost use mathlib.Core.Path.{_≡_};
 ghost use Prim.Native.Nat.{_≤_, _<_};
 ghost use lib.ListN.{length};
 ghost use Rattle.matching.specs.Matchings.{partner, isPaired, isPlaced, isMatching, welcomes, isApart, blocks, pairNumber, blocker, blockingPair};
-ghost use Rattle.matching.specs.Answers.{verdictOf, offerOf, checkOf};
+ghost use Rattle.matching.specs.Answers.{verdictOf, offerOf};
 
 const ALONE: usize = 255;
 
@@ -145,7 +145,7 @@ fn verdict(joints: usize, bands: &[[u8; 128]; 128], pairing: &[u8]) -> Checked
 }
 
 // The answer to an offered pairing over an accepted sheet's joints and square.
-fn offer(joints: usize, bands: &[[u8; 128]; 128], pairing: &[u8]) -> Checked
+pub fn offer(joints: usize, bands: &[[u8; 128]; 128], pairing: &[u8]) -> Checked
     requires { ⌜ joints ≤ 128 ⌝ }
     ensures { λ r. ⌜ r ≡ offerOf joints (now (bands .entry)) (now (pairing .entry)) ⌝ }
 {
@@ -153,23 +153,4 @@ fn offer(joints: usize, bands: &[[u8; 128]; 128], pairing: &[u8]) -> Checked
         return Checked::Refused(10);
     }
     verdict(joints, bands, pairing)
-}
-
-// Checks an offered pairing against a sheet: a refusal of the sheet, then 10, then holds or the lowest blocking pair.
-pub fn check(sheet: &[u8], pairing: &[u8]) -> Checked
-    ensures { λ r. ⌜ r ≡ checkOf (now (sheet .entry)) (now (pairing .entry)) ⌝ }
-{
-    let reading = sheet::read(sheet);
-    match reading {
-        sheet::Reading::Refused(number) => Checked::Refused(number),
-        sheet::Reading::Accepted {
-            joints,
-            entries,
-            labels: _,
-            rankings,
-        } => {
-            let bands = sheet::square(sheet, rankings, entries);
-            offer(joints, &bands, pairing)
-        }
-    }
 }

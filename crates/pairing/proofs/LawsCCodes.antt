@@ -9,8 +9,8 @@ use Rattle.sheet.specs.Format.{joints, rankCount}
 use Rattle.sheet.specs.Refusals.{sheetFault}
 use Rattle.sheet.specs.Square.{squareOf}
 use Rattle.sheet.proofs.PromiseKept.{accepted-square}
-use Rattle.matching.specs.Answers.{checkOf}
-use Rattle.matching.proofs.CheckMeans.{check-blocked}
+use Rattle.calls.specs.Checks.{checkOf}
+use Rattle.calls.proofs.CheckMeans.{check-blocked}
 use Rattle.matching.proofs.PairNumbers.{pairNumber-small}
 use Rattle.matching.specs.declared.Checked.the-variants as K
 use lib.ListN.{length}
@@ -20,13 +20,14 @@ use Rattle.roommates.specs.PhaseTwo as W
 use Rattle.roommates.proofs.Sound.{promise-sound}
 use Rattle.roommates.proofs.EntryCounts.{entries-bound}
 use Rattle.roommates.proofs.Workings.{shortens-entries}
-use Rattle.pairing.specs.declared.Settled.{Settled}
-use Rattle.pairing.specs.declared.Shortened.{Shortened}
-use Rattle.pairing.specs.declared.End.the-variants as E
-use Rattle.pairing.specs.declared.Settled.the-variants as S
-use Rattle.pairing.specs.declared.Shortened.the-variants as L
-use Rattle.pairing.specs.Calls.{workOf, endOf, settledOr, settleFault, partnersOf, settledOf, listsOf, shortenedOr, shortenFault, leftOf, shortenedOf, settleOr, settleAnswer, shortenOr, shortenAnswer, countsOr, countsOf}
-use Rattle.pairing.proofs.LawsCalls.{pairs-few, work-few}
+use Rattle.calls.specs.declared.Settled.{Settled}
+use Rattle.calls.specs.declared.Shortened.{Shortened}
+use Rattle.calls.specs.declared.End.the-variants as E
+use Rattle.calls.specs.declared.Settled.the-variants as S
+use Rattle.calls.specs.declared.Shortened.the-variants as L
+use Rattle.steering.specs.Workings.{workOf}
+use Rattle.calls.specs.Calls.{endOf, settledOr, settleFault, partnersOf, settledOf, listsOf, shortenedOr, shortenFault, leftOf, shortenedOf, settleOr, settleAnswer, shortenOr, shortenAnswer, countsOr, countsOf}
+use Rattle.calls.proofs.LawsCalls.{pairs-few, work-few}
 
 -- the counts in answers; 0 where there is none
 abbrev pairsIn : Settled → ℕ

@@ -1,12 +1,2 @@
--- Laws that several proofs cite.
-pub mod LawsWorkings
-pub mod LawsCalls
+-- The counts fit C's numbers.
 pub mod LawsCCodes
--- what a caller may conclude
-pub mod RefusalNumbers
-pub mod AnswerParts
-pub mod SettleKeeps
-pub mod ShortenKeeps
-pub mod CallsKeep
--- the starred rows of document 01
-pub mod StarredRows

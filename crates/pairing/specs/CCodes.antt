@@ -2,13 +2,13 @@
 use Prim.Native.Nat.{ℕ, _+_, _*_, _^_}
 use Rattle.matching.specs.declared.Checked.{Checked}
 use Rattle.matching.specs.declared.Checked.the-variants as K
-use Rattle.pairing.specs.declared.Phase.the-variants as P
-use Rattle.pairing.specs.declared.End.the-variants as E
-use Rattle.pairing.specs.declared.Settled.{Settled}
-use Rattle.pairing.specs.declared.Settled.the-variants as S
-use Rattle.pairing.specs.declared.Shortened.{Shortened}
-use Rattle.pairing.specs.declared.Shortened.the-variants as L
-use Rattle.pairing.specs.declared.Counts.{Counts}
+use Rattle.calls.specs.declared.Phase.the-variants as P
+use Rattle.calls.specs.declared.End.the-variants as E
+use Rattle.calls.specs.declared.Settled.{Settled}
+use Rattle.calls.specs.declared.Settled.the-variants as S
+use Rattle.calls.specs.declared.Shortened.{Shortened}
+use Rattle.calls.specs.declared.Shortened.the-variants as L
+use Rattle.calls.specs.declared.Counts.{Counts}
 
 -- a refusal's number, a verdict and a count in 32 bits
 abbrev pub packed : ℕ → ℕ → ℕ → ℕ

@@ -1,6 +1,2 @@
--- What the contracts cite beside the definitions of the crate roommates; what a caller may conclude; the starred rows.
-pub mod Workings
-pub mod Calls
+-- The calls' answers as C has them.
 pub mod CCodes
-pub mod Promises
-pub mod Rows

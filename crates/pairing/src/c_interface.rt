@@ -1,17 +1,18 @@
 // The calls as C has them (include/mirror.h): a slice is a pointer and a size, an answer one number.
-use crate::Counts;
-use crate::End;
-use crate::Phase;
-use crate::Settled;
-use crate::Shortened;
-use crate::calls::count_working;
-use crate::calls::settle;
-use crate::calls::shorten;
+use calls::Counts;
+use calls::End;
+use calls::Phase;
+use calls::Settled;
+use calls::Shortened;
+use calls::check::check;
+use calls::counting::count_working;
+use calls::settle::settle;
+use calls::shorten::shorten;
 use matching::Checked;
 ghost use mathlib.Core.Path.{_≡_};
 ghost use Prim.Native.Nat.{ℕ, _<_};
-ghost use Rattle.matching.specs.Answers.{checkOf};
-ghost use Rattle.pairing.specs.Calls.{settleAnswer, settleBytes, shortenAnswer, shortenBytes, countsOf};
+ghost use Rattle.calls.specs.Checks.{checkOf};
+ghost use Rattle.calls.specs.Calls.{settleAnswer, settleBytes, shortenAnswer, shortenBytes, countsOf};
 ghost use Rattle.pairing.specs.CCodes.{settledCode, shortenedCode, checkedCode, countsCode};
 
 // what a verdict and a count weigh in a number of 32 bits, beside the refusal's
@@ -87,7 +88,7 @@ pub extern "C" fn mirror_shorten(sheet: &[u8], choices: &[u8], out: &mut [u8]) -
 pub extern "C" fn mirror_check(sheet: &[u8], pairing: &[u8]) -> u32
     ensures { λ r. ⌜ r ≡ checkedCode (checkOf (now (sheet .entry)) (now (pairing .entry))) ⌝ }
 {
-    checked_code(matching::check(sheet, pairing))
+    checked_code(check(sheet, pairing))
 }
 
 // the counts of settle's working if `whole`, else of shorten's

@@ -1,16 +1,10 @@
--- Flags and numbers by which the code hands on what the definitions have as tests, cuts and verdicts.
+-- Numbers by which the code hands on what the definitions have as cuts and verdicts.
 use mathlib.Core.Path.{_≡_}
-use mathlib.Core.Bool.{Bool, cond}
 use mathlib.Core.List.{List}
 use Prim.Native.Nat.{ℕ}
-use lib.Dec.{eqb, ltb}
 use Rattle.roommates.specs.Lists.{Square}
 use Rattle.roommates.specs.PhaseOne.{Work, work, fuel}
 use Rattle.roommates.specs.PhaseTwo.{Cut, kept, neither, Verdict, going, none-one, none-two, paired, End, phaseTwoFrom}
-
--- what a strike hits: all of band k, or every band worse than k
-abbrev pub hits : Bool → ℕ → ℕ → Bool
-hits whole k b = cond whole (eqb b k) (ltb k b)
 
 -- a verdict's number
 abbrev pub verdictNumber : Verdict → ℕ

@@ -1,11 +1,11 @@
 // Phase two: cuts.
-use crate::lists::first_on;
-use crate::lists::list_length;
-use crate::lists::worst_band;
 use crate::proposals::chosen;
 use crate::proposals::phase_one;
-use crate::strikes::lowest_longer;
-use crate::strikes::strike;
+use lists::rows::first_on;
+use lists::rows::list_length;
+use lists::rows::worst_band;
+use lists::strikes::lowest_longer;
+use lists::strikes::strike;
 ghost use mathlib.Core.Path.{_≡_};
 ghost use mathlib.Core.Bool.{_&&_, _||_};
 ghost use Prim.Native.Nat.{_≤_, _<_};

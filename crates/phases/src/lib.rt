@@ -1,7 +1,4 @@
-// The two phases over the square of bands, and what is written of their lists: each function is an equation with a
-// definition of the crate roommates. For the crate pairing, which proves what they require.
+// The two phases over the square of bands: each function is an equation with a definition of the crate roommates. For the
+// crates above, which prove what they require.
 pub mod cuts;
-pub mod lists;
 pub mod proposals;
-pub mod results;
-pub mod strikes;

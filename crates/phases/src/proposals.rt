@@ -1,11 +1,11 @@
 // Phase one: proposals.
-use crate::lists::band_size;
-use crate::lists::best_band;
-use crate::lists::list_length;
-use crate::lists::list_waits;
-use crate::strikes::lowest_waiting;
-use crate::strikes::standing_at;
-use crate::strikes::strike;
+use lists::rows::band_size;
+use lists::rows::best_band;
+use lists::rows::list_length;
+use lists::rows::list_waits;
+use lists::strikes::lowest_waiting;
+use lists::strikes::standing_at;
+use lists::strikes::strike;
 ghost use mathlib.Core.Path.{_≡_};
 ghost use mathlib.Core.Bool.{_&&_};
 ghost use mathlib.Core.List.{List};

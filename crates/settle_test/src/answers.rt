@@ -1,12 +1,12 @@
 // What the calls answer, as one number: that of a refusal; 101 or 102 for none with its phase; 200 and the count of pairs;
 // 1000 and the count of entries. It is 0 if bytes of the buffer changed that must not.
+use calls::End;
+use calls::Phase;
+use calls::Settled;
+use calls::Shortened;
+use calls::settle::settle;
+use calls::shorten::shorten;
 use check::same;
-use pairing::End;
-use pairing::Phase;
-use pairing::Settled;
-use pairing::Shortened;
-use pairing::calls::settle;
-use pairing::calls::shorten;
 ghost use Prim.Native.Nat.{_<_};
 
 pub const NONE_ONE: u32 = 101;

@@ -9,7 +9,7 @@ use crate::answers::shortened_same;
 use crate::reference::is_among;
 use crate::tally;
 use crate::tally::expect;
-use pairing::calls::count_working;
+use calls::counting::count_working;
 use samples::next;
 ghost use Prim.Native.Nat.{_<_, _≤_};
 

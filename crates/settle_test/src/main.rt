@@ -7,9 +7,9 @@ mod rows;
 mod tally;
 
 use answers::FILL;
+use calls::Counts;
+use calls::counting::count_working;
 use libc::STDOUT_FILENO;
-use pairing::Counts;
-use pairing::calls::count_working;
 use samples::Style;
 use tally::expect;
 use tally::print_line;

@@ -2,8 +2,8 @@ use mathlib.Core.Path.{_≡_, sym, ap, _∙_}
 use mathlib.Core.List.{List}
 use Prim.Native.Nat.{ℕ}
 use borrow.Author.Needs.{needs}
-use Rattle.pairing.specs.declared.End.{End}
-use Rattle.pairing.specs.declared.Settled.the-variants as S
+use Rattle.calls.specs.declared.End.{End}
+use Rattle.calls.specs.declared.Settled.the-variants as S
 use Rattle.listing.specs.Sheets.{answer}
 use Rattle.listing.proofs.SheetTexts.{text-refused, text-none, PairedSheet, paired-sheet}
 use Rattle.listing.proofs.list_sheet.Statement.{statement}

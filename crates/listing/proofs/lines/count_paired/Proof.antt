@@ -4,7 +4,7 @@ use Prim.Native.Nat.{_+_, _-_, _≤_}
 use native.Mathlib.Omega.{arith}
 use lib.ListN.{length, drop}
 use Rattle.roommates.specs.Working.{pairedJoints}
-use Rattle.phases.proofs.LawsResults.{joints-hit, joints-miss, joints-all}
+use Rattle.results.proofs.LawsResults.{joints-hit, joints-miss, joints-all}
 use Rattle.listing.proofs.lines.count_paired.Statement.{statement}
 use Rattle.listing.proofs.lines.count_paired.Tie as tie
 

@@ -2,8 +2,8 @@ use mathlib.Core.Path.{_≡_, ap, _∙_}
 use Prim.Native.Nat.{_<_}
 use native.Mathlib.Omega.{arith}
 use Rattle.pairing.specs.CCodes.{settledCode}
-use Rattle.pairing.specs.declared.End.the-variants as E
-use Rattle.pairing.specs.declared.Settled.the-variants as S
+use Rattle.calls.specs.declared.End.the-variants as E
+use Rattle.calls.specs.declared.Settled.the-variants as S
 use borrow.Author.Needs.{needs}
 use Rattle.pairing.proofs.c_interface.settled_code.Statement.{statement}
 use Rattle.pairing.proofs.c_interface.settled_code.Tie as tie

@@ -3,7 +3,7 @@ use mathlib.Core.Path.{sym, _∙_}
 use Prim.Native.Nat.{_<_}
 use native.Mathlib.Omega.{arith}
 use borrow.Author.Needs.{needs}
-use Rattle.phases.proofs.LawsFirst.{first-inside}
+use Rattle.lists.proofs.LawsFirst.{first-inside}
 use Rattle.phases.proofs.LawsCuts.{cut-first, cut-second, cut-neither, is-kept, is-neither}
 use Rattle.phases.proofs.cuts.cut.Statement.{statement}
 use Rattle.phases.proofs.cuts.cut.Tie as tie

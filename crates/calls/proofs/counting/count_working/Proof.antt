@@ -1,0 +1,43 @@
+use mathlib.Core.Path.{sym, _∙_}
+use Rattle.sheet.proofs.ReadAs.{ReadAs, read-as, read-refused}
+use Rattle.sheet.specs.Refusals.{sheetFault}
+use Rattle.calls.proofs.LawsCalls.{counts-refused, counts-accepted, read-promise}
+use borrow.Author.Needs.{needs}
+use Rattle.calls.proofs.counting.count_working.Statement.{statement}
+use Rattle.calls.proofs.counting.count_working.Tie as tie
+
+read-requires : tie.Need-read-requires
+read-requires c κs = search needs
+
+enum-known-reading : tie.Need-enum-known-reading
+enum-known-reading c = search needs
+
+enum-known-reading-2 : tie.Need-enum-known-reading-2
+enum-known-reading-2 c = search needs
+
+known : (c : tie.After-reading2) → ReadAs (c .before .before .before .before .before .args .sheet .now) (sheetFault (c .before .before .before .before .before .args .sheet .now)) (c .reading2 .given .0 .0) (c .reading2 .given .0 .1 .0) (c .reading2 .given .0 .1 .1 .1 .0)
+known c = read-as _ _ _ _ _ _ (sym (c .before .before .read .ensures) ∙ c .reading2 .given .1)
+
+square-requires : tie.Need-square-requires
+square-requires c κs = let k = known (c .before) in (k .faultless, (k .entries-start, k .m-entries))
+
+count-lists-requires : tie.Need-count-lists-requires
+count-lists-requires c κs = read-promise _ (c .before .before .before .before .before .before .before .args .choices .now) (known (c .before .before)) (c .square .ensures)
+
+returns : tie.Need-returns
+returns c = counts-refused _ _ (read-refused _ _ _ (sym (c .before .before .before .read .ensures) ∙ c .before .reading .given .1)) _
+
+returns-2 : tie.Need-returns-2
+returns-2 c = counts-accepted _ _ (known (c .before .before .before)) (c .before .square .ensures) _ (c .count-lists .ensures)
+
+pub count-working-spec : {M : Type 1} → statement M
+count-working-spec =
+    tie.close
+    (tie.spec
+    read-requires
+    enum-known-reading
+    enum-known-reading-2
+    square-requires
+    count-lists-requires
+    returns
+    returns-2)

@@ -1,0 +1,95 @@
+-- What a caller of settle, shorten and the counts may conclude from their answers and from the buffer after them.
+use mathlib.Core.Path.{_≡_}
+use mathlib.Core.Bool.{Bool, true, false}
+use mathlib.Core.List.{List, [], _∷_}
+use mathlib.Core.Logic.{_⊎_, _≢_, _↔_}
+use Prim.Native.Nat.{ℕ, _+_, _*_, _/_, _%_, _≤_, _<_}
+use lib.Dec.{eqb}
+use lib.ListN.{length, take, drop}
+use Rattle.sheet.specs.Format.{joints, rankCount}
+use Rattle.sheet.specs.Refusals.{sheetFault}
+use Rattle.sheet.specs.Square.{squareOf}
+use Rattle.matching.specs.declared.Checked.the-variants as C
+use Rattle.matching.specs.Matchings.{partner, isSuperStable}
+use Rattle.calls.specs.Checks.{checkOf}
+use Rattle.roommates.specs.Working.{pairCount}
+use Rattle.calls.specs.declared.Phase.{Phase}
+use Rattle.calls.specs.declared.Phase.the-variants as P
+use Rattle.calls.specs.declared.End.the-variants as E
+use Rattle.calls.specs.declared.Settled.{Settled}
+use Rattle.calls.specs.declared.Settled.the-variants as S
+use Rattle.calls.specs.declared.Shortened.{Shortened}
+use Rattle.calls.specs.declared.Shortened.the-variants as L
+use Rattle.calls.specs.Calls.{settleAnswer, settleBytes, shortenAnswer, shortenBytes, countsOf}
+
+-- the number of an answer's refusal, 0 where nothing is refused
+abbrev pub settledNumber : Settled → ℕ
+settledNumber (S.Ended e) = 0
+settledNumber (S.Refused k) = k
+
+abbrev pub shortenedNumber : Shortened → ℕ
+shortenedNumber L.None = 0
+shortenedNumber (L.Lists k) = 0
+shortenedNumber (L.Refused k) = k
+
+-- m is a super-stable matching of the sheet s
+abbrev pub Super : List ℕ → List ℕ → Type 0
+Super s m = isSuperStable (joints s) (squareOf s) m ≡ true
+
+-- A pairing of k pairs: the first n bytes of the buffer `after`, which was `before`.
+pub record PairingIs (s before after : List ℕ) (k : ℕ) : Type 0 where
+  pub super-stable : Super s (take (joints s) after)
+  pub checked : checkOf s (take (joints s) after) ≡ C.Holds
+  pub pairs : pairCount (take (joints s) after) ≡ k
+  -- every super-stable matching pairs the same joints
+  pub same-joints : (m : List ℕ) → Super s m → (a : ℕ) → a < joints s → eqb (partner m a) 255 ≡ eqb (partner (take (joints s) after) a) 255
+  -- the bytes past it are unchanged
+  pub past : drop (joints s) after ≡ drop (joints s) before
+  pub same-length : length after ≡ length before
+
+-- The shortened lists, of k entries: the first 2 + 3 × k bytes of the buffer `after`, which was `before`.
+pub record ListsAre (before after : List ℕ) (k : ℕ) : Type 0 where
+  pub count-first : take 2 after ≡ (k % 256) ∷ ((k / 256) ∷ [])
+  pub past : drop (2 + 3 * k) after ≡ drop (2 + 3 * k) before
+  pub same-length : length after ≡ length before
+
+-- When a call refuses, both ways. The sheet's own refusal is f (0 for none), `choice` is the one that the counts name beside the working,
+-- and `need` bytes are due in a buffer of `room`.
+pub record Refuses (f choice need room : ℕ) (Refused : ℕ → Type 0) : Type 0 where
+  pub numbers : (k : ℕ) → Refused k → ((1 ≤ k) × (k ≤ 9)) ⊎ ((11 ≤ k) × (k ≤ 13))
+  pub by-sheet : (k : ℕ) → 1 ≤ k → k ≤ 8 → Refused k ↔ (f ≡ k)
+  pub by-buffer : Refused 9 ↔ ((f ≡ 0) × (room < need))
+  pub by-choice : (k : ℕ) → 11 ≤ k → Refused k ↔ ((need ≤ room) × (choice ≡ k))
+
+pub record CallsKeep (s : List ℕ) : Type 0 where
+  -- SETTLE. A pairing is super-stable. After none every matching is blocked, and none and a refusal write nothing.
+  pub settle-paired : (cs out : List ℕ) (k : ℕ) → settleAnswer s cs out ≡ S.Ended (E.Paired k) → PairingIs s out (settleBytes s cs out) k
+  pub settle-none : (cs out : List ℕ) (p : Phase) → settleAnswer s cs out ≡ S.Ended (E.None p)
+      → (settleBytes s cs out ≡ out) × ((m : List ℕ) → (isSuperStable (joints s) (squareOf s) m ≡ false) × (checkOf s m ≢ C.Holds))
+  pub settle-refused : (cs out : List ℕ) (k : ℕ) → settleAnswer s cs out ≡ S.Refused k → settleBytes s cs out ≡ out
+  pub settle-refuses : (cs out : List ℕ)
+      → Refuses (sheetFault s) (countsOf true s cs .number) (joints s) (length out) (λ k. settleAnswer s cs out ≡ S.Refused k)
+  -- two calls that refuse nothing: the same verdict, phase and count of pairs
+  pub settle-same : (cs ds out out′ : List ℕ) → settledNumber (settleAnswer s cs out) ≡ 0 → settledNumber (settleAnswer s ds out′) ≡ 0
+      → settleAnswer s cs out ≡ settleAnswer s ds out′
+  -- SHORTEN. Only lists are written.
+  pub shorten-lists : (cs out : List ℕ) (k : ℕ) → shortenAnswer s cs out ≡ L.Lists k → ListsAre out (shortenBytes s cs out) k
+  pub shorten-none : (cs out : List ℕ) → shortenAnswer s cs out ≡ L.None → shortenBytes s cs out ≡ out
+  pub shorten-refused : (cs out : List ℕ) (k : ℕ) → shortenAnswer s cs out ≡ L.Refused k → shortenBytes s cs out ≡ out
+  pub shorten-refuses : (cs out : List ℕ)
+      → Refuses (sheetFault s) (countsOf false s cs .number) (2 + 3 * rankCount s) (length out) (λ k. shortenAnswer s cs out ≡ L.Refused k)
+  pub shorten-not-12 : (cs out : List ℕ) → shortenAnswer s cs out ≢ L.Refused 12
+  -- two calls that refuse nothing: the same answer, and the same bytes written
+  pub shorten-same : (cs ds out out′ : List ℕ) → shortenedNumber (shortenAnswer s cs out) ≡ 0 → shortenedNumber (shortenAnswer s ds out′) ≡ 0
+      → shortenAnswer s cs out ≡ shortenAnswer s ds out′
+  pub same-bytes : (cs ds out out′ : List ℕ) (k : ℕ) → shortenAnswer s cs out ≡ L.Lists k → shortenAnswer s ds out′ ≡ L.Lists k
+      → take (2 + 3 * k) (shortenBytes s cs out) ≡ take (2 + 3 * k) (shortenBytes s ds out′)
+  -- shorten says none exactly where settle says none in phase one
+  pub same-none : (cs ds out out′ : List ℕ) → shortenedNumber (shortenAnswer s cs out) ≡ 0 → settledNumber (settleAnswer s ds out′) ≡ 0
+      → (shortenAnswer s cs out ≡ L.None) ↔ (settleAnswer s ds out′ ≡ S.Ended (E.None P.One))
+  -- COUNTS, beside refused choices too: of settle's working (true) and of shorten's (false)
+  pub few-proposals : (whole : Bool) (cs : List ℕ) → countsOf whole s cs .proposals ≤ joints s * joints s
+  pub few-cuts : (whole : Bool) (cs : List ℕ) → 2 * countsOf whole s cs .cuts ≤ rankCount s
+  pub no-cuts : (cs : List ℕ) → countsOf false s cs .cuts ≡ 0
+  -- without choices no accepted sheet is refused
+  pub no-choices : (whole : Bool) → sheetFault s ≡ 0 → countsOf whole s [] .number ≡ 0

@@ -1,0 +1,131 @@
+-- The starred rows of document 01, "Sheets to try": for each call what it answers, and the buffer before and after settle.
+use mathlib.Core.Path.{_≡_}
+use mathlib.Core.Bool.{Bool, false, _||_, cond}
+use mathlib.Core.List.{List, [], _∷_, _++_}
+use Prim.Native.Nat.{ℕ, zero, suc, _+_, _%_, _/_}
+use lib.Dec.{eqb}
+use lib.ListN.{length, replicate}
+use Rattle.matching.specs.declared.Checked.{Checked}
+use Rattle.matching.specs.declared.Checked.the-variants as C
+use Rattle.calls.specs.Checks.{checkOf}
+use Rattle.calls.specs.declared.Phase.the-variants as P
+use Rattle.calls.specs.declared.End.the-variants as E
+use Rattle.calls.specs.declared.Settled.{Settled}
+use Rattle.calls.specs.declared.Settled.the-variants as S
+use Rattle.calls.specs.Calls.{settleAnswer, settleBytes}
+
+-- A joint's list as document 01 writes it: from the best to the worst band, each with the joints that are tied in it.
+abbrev pub Ranks : Type 0
+Ranks = List (List ℕ)
+
+unfoldable pub isIn : ℕ → List ℕ → Bool
+isIn b [] = false
+isIn b (c ∷ cs) = eqb b c || isIn b cs
+
+-- the band of b, where the first band is k; 0 for unlisted
+unfoldable pub bandFrom : ℕ → Ranks → ℕ → ℕ
+bandFrom k [] b = 0
+bandFrom k (tied ∷ worse) b = cond (isIn b tied) k (bandFrom (suc k) worse b)
+
+-- a's entries, as bytes, with the candidates below b; those of the joints from a on, n in all
+unfoldable pub entriesBelow : ℕ → ℕ → Ranks → List ℕ
+entriesBelow zero a l = []
+entriesBelow (suc b) a l = entriesBelow b a l ++ cond (eqb (bandFrom 1 l b) 0) [] (a ∷ b ∷ bandFrom 1 l b ∷ [])
+
+unfoldable pub entriesOnward : ℕ → ℕ → List Ranks → List ℕ
+entriesOnward n a [] = []
+entriesOnward n a (l ∷ lists) = entriesBelow n a l ++ entriesOnward n (suc a) lists
+
+-- n labels a, b, c, ..: a letter, then 15 zero bytes
+unfoldable pub letters : ℕ → List ℕ
+letters zero = []
+letters (suc i) = letters i ++ ((97 + i) ∷ replicate 15 0)
+
+-- the sheet of such lists: each section after its count
+abbrev pub counted : List ℕ → List ℕ
+counted bytes = (length bytes / 3 % 256) ∷ (length bytes / 3 / 256) ∷ bytes
+
+unfoldable pub sheetOf : List Ranks → List ℕ
+sheetOf lists = length lists ∷ letters (length lists) ++ counted (entriesOnward (length lists) 0 lists)
+
+-- bands of one, two and three joints
+abbrev pub only : ℕ → List ℕ
+only a = a ∷ []
+
+abbrev pub tie : ℕ → ℕ → List ℕ
+tie a b = a ∷ b ∷ []
+
+abbrev pub tie₃ : ℕ → ℕ → ℕ → List ℕ
+tie₃ a b c = a ∷ b ∷ c ∷ []
+
+-- THE SHEETS, by the row that first has them: n = 0; one joint, no entries; then the lists of joints 0, 1, 2, 3
+abbrev pub sheet-a : List ℕ
+sheet-a = sheetOf []
+
+abbrev pub sheet-b : List ℕ
+sheet-b = sheetOf ([] ∷ [])
+
+abbrev pub sheet-c : List ℕ
+sheet-c = sheetOf ((only 1 ∷ []) ∷ (only 0 ∷ []) ∷ [])
+
+abbrev pub sheet-d : List ℕ
+sheet-d = sheetOf ((tie 1 2 ∷ []) ∷ (tie 0 2 ∷ []) ∷ (tie 0 1 ∷ []) ∷ [])
+
+abbrev pub sheet-e : List ℕ
+sheet-e = sheetOf ((only 3 ∷ only 2 ∷ []) ∷ (only 3 ∷ []) ∷ (only 0 ∷ []) ∷ (tie 0 1 ∷ []) ∷ [])
+
+abbrev pub sheet-f : List ℕ
+sheet-f =
+    sheetOf
+    ((only 1 ∷ only 2 ∷ only 3 ∷ [])
+    ∷ (only 2 ∷ only 0 ∷ only 3 ∷ [])
+    ∷ (only 0 ∷ only 1 ∷ only 3 ∷ [])
+    ∷ (tie₃ 0 1 2 ∷ [])
+    ∷ [])
+
+abbrev pub sheet-g : List ℕ
+sheet-g = sheetOf ((only 1 ∷ only 3 ∷ []) ∷ (only 2 ∷ only 0 ∷ []) ∷ (only 3 ∷ only 1 ∷ []) ∷ (only 0 ∷ only 2 ∷ []) ∷ [])
+
+abbrev pub sheet-i : List ℕ
+sheet-i =
+    sheetOf ((only 1 ∷ tie 2 3 ∷ []) ∷ (only 0 ∷ tie 2 3 ∷ []) ∷ (only 3 ∷ tie 0 1 ∷ []) ∷ (only 2 ∷ tie 0 1 ∷ []) ∷ [])
+
+-- A ROW: settle with its choices and buffer, its answer and the buffer after it; or check with a pairing, and its answer.
+pub data Row : Type 0 where
+  settle-row : (sheet choices before : List ℕ) → Settled → (after : List ℕ) → Row
+  check-row : (sheet pairing : List ℕ) → Checked → Row
+
+abbrev pub Holds : Row → Type 0
+Holds (settle-row s cs before answer after) = (settleAnswer s cs before ≡ answer) × (settleBytes s cs before ≡ after)
+Holds (check-row s m answer) = checkOf s m ≡ answer
+
+abbrev pub AllHold : List Row → Type 0
+AllHold [] = record {}
+AllHold (r ∷ rs) = Holds r × AllHold rs
+
+-- a buffer of b bytes, before a call
+abbrev pub buffer : ℕ → List ℕ
+buffer b = replicate b 9
+
+-- THE TABLE. Each buffer has two bytes more than there are joints: they stay 9.
+abbrev pub rows : List Row
+rows =
+    -- a, b, c
+    settle-row sheet-a [] (buffer 2) (S.Ended (E.Paired 0)) (9 ∷ 9 ∷ [])
+    ∷ settle-row sheet-b [] (buffer 3) (S.Ended (E.Paired 0)) (255 ∷ 9 ∷ 9 ∷ [])
+    ∷ settle-row sheet-c [] (buffer 4) (S.Ended (E.Paired 1)) (1 ∷ 0 ∷ 9 ∷ 9 ∷ [])
+    -- d, e, f
+    ∷ settle-row sheet-d [] (buffer 5) (S.Ended (E.None P.One)) (buffer 5)
+    ∷ settle-row sheet-e [] (buffer 6) (S.Ended (E.None P.One)) (buffer 6)
+    ∷ settle-row sheet-f [] (buffer 6) (S.Ended (E.None P.Two)) (buffer 6)
+    -- g, h, i
+    ∷ settle-row sheet-g [] (buffer 6) (S.Ended (E.Paired 2)) (3 ∷ 2 ∷ 1 ∷ 0 ∷ 9 ∷ 9 ∷ [])
+    ∷ settle-row sheet-g (0 ∷ 1 ∷ 2 ∷ 3 ∷ 1 ∷ []) (buffer 6) (S.Ended (E.Paired 2)) (1 ∷ 0 ∷ 3 ∷ 2 ∷ 9 ∷ 9 ∷ [])
+    ∷ settle-row sheet-i [] (buffer 6) (S.Ended (E.Paired 2)) (1 ∷ 0 ∷ 3 ∷ 2 ∷ 9 ∷ 9 ∷ [])
+    -- j
+    ∷ check-row sheet-g (1 ∷ 0 ∷ 255 ∷ 255 ∷ []) (C.Blocked 2)
+    -- k, l, m
+    ∷ settle-row sheet-c (0 ∷ 1 ∷ 0 ∷ []) (buffer 4) (S.Refused 13) (buffer 4)
+    ∷ settle-row sheet-g (0 ∷ 0 ∷ []) (buffer 6) (S.Refused 11) (buffer 6)
+    ∷ settle-row sheet-f (0 ∷ 1 ∷ 2 ∷ 3 ∷ []) (buffer 6) (S.Refused 12) (buffer 6)
+    ∷ []

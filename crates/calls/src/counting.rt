@@ -1,0 +1,58 @@
+// The counts of a working.
+use crate::Counts;
+use sheet::Reading;
+use steering::working;
+ghost use mathlib.Core.Path.{_≡_};
+ghost use Rattle.sheet.specs.Square.{SquarePromise};
+ghost use Rattle.steering.specs.Workings.{workOf};
+ghost use Rattle.calls.specs.Calls.{endCounts, countsOf};
+
+fn count_lists(n: usize, bands: [[u8; 128]; 128], choices: &[u8], whole: bool) -> Counts
+    requires { ⌜ SquarePromise n bands ⌝ }
+    ensures { λ r. ⌜ r ≡ endCounts (workOf whole n bands (now (choices .entry))) ⌝ }
+{
+    let mut refusal: u8 = 0;
+    let mut verdict: u8 = 0;
+    let mut proposals: usize = 0;
+    let mut cuts: usize = 0;
+    working(
+        n,
+        bands,
+        choices,
+        whole,
+        &mut refusal,
+        &mut verdict,
+        &mut proposals,
+        &mut cuts,
+    );
+    Counts {
+        number: refusal,
+        proposals: proposals as u32,
+        cuts: cuts as u32,
+    }
+}
+
+// The counts of a sheet's working, settle's if `whole`, else shorten's: beside its end, or beside a refused choice.
+pub fn count_working(sheet: &[u8], choices: &[u8], whole: bool) -> Counts
+    ensures { λ r. ⌜ r ≡ countsOf whole (now (sheet .entry)) (now (choices .entry)) ⌝ }
+{
+    let reading = sheet::read(sheet);
+    match reading {
+        Reading::Refused(number) => Counts {
+            number: number,
+            proposals: 0,
+            cuts: 0,
+        },
+        Reading::Accepted {
+            joints,
+            entries,
+            labels: _,
+            rankings,
+        } => count_lists(
+            joints,
+            sheet::square(sheet, rankings, entries),
+            choices,
+            whole,
+        ),
+    }
+}

@@ -1,0 +1,94 @@
+// What joints do to the square of bands: proposals that stand, and strikes.
+use crate::rows::list_length;
+use crate::rows::list_waits;
+ghost use mathlib.Core.Path.{_≡_};
+ghost use Prim.Native.Nat.{_≤_, _<_};
+ghost use lib.ListN.{getD};
+ghost use Rattle.roommates.specs.Lists.{row, struck, strikeIf};
+ghost use Rattle.base.specs.Below.{lowest};
+ghost use Rattle.roommates.specs.PhaseOne.{listWaits, stands, standingAt};
+ghost use Rattle.roommates.specs.PhaseTwo.{longer};
+ghost use Rattle.lists.specs.Hits.{hits};
+
+pub fn lowest_waiting(n: usize, bands: &[[u8; 128]; 128], reach: &[u8; 128]) -> usize
+    requires { ⌜ n ≤ 128 ⌝ }
+    ensures { λ r. ⌜ r ≡ lowest n (λ p. listWaits n (getD (now (reach .entry)) p 0) (row (now (bands .entry)) p)) ⌝ }
+{
+    let mut p = 0;
+    while p < n {
+        if list_waits(n, reach[p], &bands[p]) {
+            return p;
+        }
+        p += 1;
+    }
+    n
+}
+
+pub fn lowest_longer(n: usize, bands: &[[u8; 128]; 128]) -> usize
+    requires { ⌜ n ≤ 128 ⌝ }
+    ensures { λ r. ⌜ r ≡ lowest n (λ x. longer n (now (bands .entry)) x) ⌝ }
+{
+    let mut x = 0;
+    while x < n {
+        if 2 <= list_length(n, &bands[x]) {
+            return x;
+        }
+        x += 1;
+    }
+    n
+}
+
+// does a proposal of a joint that last proposed to band k stand where it has band b?
+fn stands_in(k: u8, b: u8) -> bool
+    ensures { λ r. ⌜ r ≡ stands k b ⌝ }
+{
+    if k == 0 {
+        return false;
+    }
+    b == k
+}
+
+pub fn standing_at(n: usize, bands: &[[u8; 128]; 128], reach: &[u8; 128], q: usize) -> u8
+    requires { ⌜ (n ≤ 128) × (q < 128) ⌝ }
+    ensures { λ r. ⌜ r ≡ standingAt n (now (bands .entry)) (now (reach .entry)) q ⌝ }
+{
+    let mut count: u8 = 0;
+    let mut i = 0;
+    while i < n {
+        if stands_in(reach[i], bands[i][q]) {
+            count += 1;
+        }
+        i += 1;
+    }
+    count
+}
+
+fn hit(whole: bool, k: u8, b: u8) -> bool
+    ensures { λ r. ⌜ r ≡ hits whole k b ⌝ }
+{
+    if whole {
+        return b == k;
+    }
+    k < b
+}
+
+fn strike_pair(bands: &mut [[u8; 128]; 128], q: usize, i: usize)
+    requires { ⌜ (q < 128) × (i < 128) ⌝ }
+    ensures { λ _. ⌜ now (bands .exit) ≡ struck (now (bands .entry)) q i ⌝ }
+{
+    bands[q][i] = 0;
+    bands[i][q] = 0;
+}
+
+pub fn strike(n: usize, bands: &mut [[u8; 128]; 128], q: usize, k: u8, whole: bool)
+    requires { ⌜ (n ≤ 128) × (q < 128) ⌝ }
+    ensures { λ _. ⌜ now (bands .exit) ≡ strikeIf (λ b. hits whole k b) n (now (bands .entry)) q ⌝ }
+{
+    let mut i = 0;
+    while i < n {
+        if hit(whole, k, bands[q][i]) {
+            strike_pair(bands, q, i);
+        }
+        i += 1;
+    }
+}

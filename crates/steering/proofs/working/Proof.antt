@@ -1,0 +1,21 @@
+use native.Mathlib.Omega.{arith}
+use borrow.Author.Tests.{not-true, not-false}
+use Rattle.steering.proofs.LawsWorkings.{used-below, worked-as, worked-two, work-stopped, work-goes-on}
+use borrow.Author.Needs.{needs}
+use Rattle.steering.proofs.working.Statement.{statement}
+use Rattle.steering.proofs.working.Tie as tie
+
+phase-one-requires : tie.Need-phase-one-requires
+phase-one-requires c κs = search needs
+
+returns : tie.Need-returns
+returns c = worked-as (work-stopped _ _ _ (c .before .phase-one .ensures) _ (not-true _ (c .if1 .taken)))
+
+go-on-requires : tie.Need-go-on-requires
+go-on-requires c κs = let h = used-below _ (c .before .before .before .before .before .before .before .before .before .before .before .before .before .pre) _ _ (c .before .before .before .before .before .phase-one .ensures) in omega arith
+
+returns-2 : tie.Need-returns-2
+returns-2 c = worked-two (work-goes-on _ _ _ (c .before .before .before .before .before .before .phase-one .ensures) _ (not-false _ (c .before .before .before .before .before .if1 .left))) (c .go-on .ensures _ _)
+
+pub working-spec : {M : Type 1} → statement M
+working-spec = tie.close (tie.spec phase-one-requires returns go-on-requires returns-2)

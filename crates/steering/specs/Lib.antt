@@ -1,0 +1,2 @@
+-- Whole workings, as the code hands them on.
+pub mod Workings
