@@ -61,8 +61,9 @@
 extern "C" {
 #endif
 
-/* The most joints, and the sizes in bytes that serve for every sheet: of a sheet that is not refused, and of `out` for
- * mirror_settle and mirror_shorten. */
+/* The most joints, and the sizes in bytes that serve for every sheet: no longer sheet is accepted, and `out` need be no
+ * longer for mirror_settle and mirror_shorten. A program that reads a sheet into a buffer of MIRROR_SHEET_BYTES takes one byte
+ * more, or it will not see that bytes follow a largest sheet (refusal 8). */
 #define MIRROR_JOINTS 128
 #define MIRROR_SHEET_BYTES (1 + 16 * 128 + 2 + 3 * 128 * 127)
 #define MIRROR_PAIRING_BYTES 128
@@ -71,15 +72,46 @@ extern "C" {
 /* The partner byte of an unpaired joint. */
 #define MIRROR_ALONE 255
 
-/* The parts of what mirror_settle, mirror_shorten and mirror_check return. */
+/* The parts of what the calls return. MIRROR_REFUSAL is for every call; MIRROR_VERDICT and MIRROR_COUNT for mirror_settle
+ * and mirror_shorten; MIRROR_HOLDS and MIRROR_PAIR for mirror_check; MIRROR_PROPOSALS and MIRROR_CUTS for mirror_counts. */
 #define MIRROR_REFUSAL(r) ((unsigned)((r) & 255))
 #define MIRROR_VERDICT(r) ((unsigned)((r) >> 8 & 255))
 #define MIRROR_COUNT(r) ((unsigned)((r) >> 16))
+#define MIRROR_HOLDS(r) ((unsigned)((r) >> 8 & 255))
+#define MIRROR_PAIR(r) ((unsigned)((r) >> 16))
+#define MIRROR_PROPOSALS(r) ((unsigned)((r) >> 16 & 65535))
+#define MIRROR_CUTS(r) ((unsigned)((r) >> 32))
 
 /* Verdicts of mirror_settle and mirror_shorten; 0 with a refusal. */
 #define MIRROR_NONE_PHASE_ONE 1
 #define MIRROR_NONE_PHASE_TWO 2
 #define MIRROR_DONE 3
+
+/* The refusals by name; MIRROR_ACCEPTED where nothing is refused. */
+enum mirror_refusal {
+    MIRROR_ACCEPTED = 0,
+    MIRROR_SHEET_CUT_SHORT = 1,
+    MIRROR_TOO_MANY_JOINTS = 2,
+    MIRROR_BAD_LABEL = 3,
+    MIRROR_NO_SUCH_JOINT = 4,
+    MIRROR_BAD_BAND = 5,
+    MIRROR_ENTRY_NOT_AFTER = 6,
+    MIRROR_NOT_RETURNED = 7,
+    MIRROR_BYTES_AFTER_SHEET = 8,
+    MIRROR_OUT_TOO_SHORT = 9,
+    MIRROR_NO_PAIRING_OFFERED = 10,
+    MIRROR_CHOICE_DOES_NOT_WAIT = 11,
+    MIRROR_CHOICE_HAS_NO_LIST = 12,
+    MIRROR_CHOICE_LEFT_OVER = 13
+};
+
+/*
+ * The version of this interface. A later library may change what a call means or takes; it then has a higher number. A
+ * program that is linked against a library other than the header it was compiled with can tell:
+ *     if (mirror_version() != MIRROR_VERSION) ...
+ */
+#define MIRROR_VERSION 1
+uint32_t mirror_version(void);
 
 /*
  * Looks for a super-stable pairing.
@@ -115,7 +147,11 @@ uint32_t mirror_shorten(const uint8_t *sheet, size_t sheet_size,
  * Returns refusal + 256 x holds + 65,536 x pair:
  *   holds 1    no pair blocks the pairing: it is super-stable. pair is 0.
  *   holds 0    with refusal 0: blocked, and `pair` is the lowest number of a blocking pair. The pair of joints a and b,
- *              a below b, has the number b x (b - 1) / 2 + a.
+ *              a below b, has the number b x (b - 1) / 2 + a, so its joints are
+ *                  unsigned b = 1, a;
+ *                  while (b * (b + 1) / 2 <= pair)
+ *                      b++;
+ *                  a = pair - b * (b - 1) / 2;
  *              With refusal 1 to 8 or 10: not checked; pair is 0.
  */
 uint32_t mirror_check(const uint8_t *sheet, size_t sheet_size,

@@ -1,14 +1,13 @@
 -- Laws of `countBelow`.
-use mathlib.Core.Path.{_≡_, refl, ap, ap₂, sym, _∙_}
+use mathlib.Core.Path.{_≡_, refl, ap}
 use mathlib.Core.Bool.{Bool, true, false, not, cond}
 use mathlib.Core.Logic.{_⊎_, inl, inr, _≢_}
-use Prim.Native.Nat.{ℕ, zero, suc, _+_, _*_, _≤_, _<_}
+use Prim.Native.Nat.{ℕ, zero, suc, _+_, _≤_, _<_}
 use native.Mathlib.Numerals.{add-one}
 use native.Mathlib.Omega.{arith}
 use Rattle.base.specs.Below.{countBelow, sumBelow}
-use Rattle.base.proofs.Cases.{case, both-ways, lt-ge, below-suc}
-use Rattle.base.proofs.Tests.{never}
-use Rattle.base.proofs.SumBelow.{sum-same, sum-le, sum-grows}
+use Rattle.base.proofs.Cases.{case, both-ways, lt-ge}
+use Rattle.base.proofs.SumBelow.{sum-grows}
 
 -- a count is a sum of ones
 abbrev pub ones : (ℕ → Bool) → ℕ → ℕ

@@ -2,6 +2,7 @@
 use mathlib.Core.Path.{_≡_, refl, sym, _∙_}
 use mathlib.Core.Bool.{Bool, true, false}
 use mathlib.Core.List.{List, [], _∷_}
+use mathlib.Core.Logic.{_≢_, _↔_}
 use Prim.Native.Nat.{ℕ, zero, suc, _+_, _≤_, _<_}
 use native.Mathlib.Numerals.{add-one}
 use native.Mathlib.Omega.{arith}
@@ -84,6 +85,25 @@ pub first-answered : FirstAnswered
 first-answered faults k = (
   λ h. first-is faults k (h .0) (h .1),
   λ r. (is-first faults k (r .place) (r .inside) (r .stands) (r .fault) (r .earlier), r .fault),
+)
+
+-- past the end there is none
+fault-inside : (faults : List ℕ) (i k : ℕ) → getD faults i 0 ≡ k → 1 ≤ k → i < length faults
+fault-inside [] i k h l = absurd (omega arith)
+fault-inside (f ∷ later) zero k h l = omega arith
+fault-inside (f ∷ later) (suc i) k h l = let r = fault-inside later i k h l in omega arith
+
+-- Where no other place can have the number k, it is answered exactly if its own place has it and those before have none.
+pub answered-at : (faults : List ℕ) (i k : ℕ) → 1 ≤ k
+    → ((j : ℕ) → j ≢ i → ((l : ℕ) → l < j → getD faults l 0 ≡ 0) → getD faults j 0 ≢ k)
+    → firstFault faults ≡ k ↔ ((getD faults i 0 ≡ k) × ((l : ℕ) → l < i → getD faults l 0 ≡ 0))
+answered-at faults i k some apart = (
+  λ h.
+      let r = first-is faults k h some in
+      case (eq-ne (r .place) i)
+      (λ e. rw (← e) (r .stands, r .earlier))
+      (λ ne. absurd (apart (r .place) ne (r .earlier) (r .stands))),
+  λ h. is-first faults k i (fault-inside faults i k (h .0) some) (h .0) some (h .1),
 )
 
 all-none : (faults : List ℕ) → firstFault faults ≡ 0 → (i : ℕ) → getD faults i 0 ≡ 0

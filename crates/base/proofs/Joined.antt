@@ -1,11 +1,13 @@
 -- Laws of `joined`.
 use mathlib.Core.Path.{_≡_, refl, ap₂, _∙_}
-use mathlib.Core.List.{List, [], _++_}
+use mathlib.Core.List.{List, [], _∷_, _++_}
 use Prim.Native.Nat.{ℕ, zero, suc, _+_, _≤_, _<_}
 use native.Mathlib.Numerals.{add-one}
 use native.Mathlib.Omega.{arith}
-use lib.ListN.{length, length-append}
+use lib.ListN.{length, getD, length-append, List·getD-append}
+use lib.Seq.{getD-at}
 use Rattle.base.specs.Below.{joined, sumBelow}
+use Rattle.base.proofs.Cases.{case, below-suc}
 use Rattle.base.proofs.SumBelow.{sum-next, sum-grows}
 
 -- in a loop
@@ -34,3 +36,19 @@ joined-within n part i h =
     let next : sumBelow (i + 1) f ≡ sumBelow i f + f i = sum-next i f in
     let grows : sumBelow (i + 1) f ≤ sumBelow n f = sum-grows n (i + 1) f (omega arith) in
     omega (arith, joined-length i part, joined-length n part)
+
+-- one byte for each number below n
+pub singles-length : (n : ℕ) (f : ℕ → ℕ) → length (joined n (λ a. f a ∷ [])) ≡ n
+unfolding joined
+singles-length zero f = refl
+singles-length (suc i) f = let rest = singles-length i f in length-append (joined i (λ a. f a ∷ [])) (f i ∷ []) ∙ omega arith
+
+pub single-at : (n : ℕ) (f : ℕ → ℕ) (a d : ℕ) → a < n → getD (joined n (λ a. f a ∷ [])) a d ≡ f a
+unfolding joined
+single-at zero f a d lt = absurd (omega arith)
+single-at (suc i) f a d lt =
+    let m : List ℕ = joined i (λ a. f a ∷ []) in
+    let long : length m ≡ i = singles-length i f in
+    case (below-suc lt)
+    (λ e. rw e (getD-at m (f i) [] d i long))
+    (λ lt. List·getD-append m (f i ∷ []) d a (omega arith) ∙ single-at i f a d lt)

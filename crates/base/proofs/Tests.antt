@@ -1,6 +1,6 @@
 -- What a test tells of its parts, and its parts of it.
 use mathlib.Core.Path.{_≡_, refl, sym, _∙_}
-use mathlib.Core.Bool.{Bool, true, false, cond, not, _&&_, _||_, true≢false, false≢true}
+use mathlib.Core.Bool.{Bool, true, false, not, _&&_, _||_, true≢false, false≢true}
 use mathlib.Core.Logic.{_⊎_, inl, inr}
 use Prim.Native.Nat.{ℕ}
 use native.Mathlib.Omega.{arith}
@@ -30,10 +30,6 @@ or-right false b h = h
 pub and-true : (a b : Bool) → (a && b) ≡ true → (a ≡ true) × (b ≡ true)
 and-true true b h = (refl, h)
 and-true false b h = absurd (false≢true h)
-
-pub cond-both : (a b : Bool) → cond a b false ≡ true → (a ≡ true) × (b ≡ true)
-cond-both true b h = (refl, h)
-cond-both false b h = absurd (false≢true h)
 
 -- a call's answer r, tested as `!r`
 pub said-yes : {r b : Bool} → r ≡ b → not r ≡ false → b ≡ true

@@ -1,10 +1,10 @@
 -- Laws that several proofs cite.
-pub mod SheetReadings
+pub mod Answers
 pub mod LawsCalls
 -- what a caller may conclude
-pub mod CheckMeans
-pub mod RefusalNumbers
-pub mod AnswerParts
+pub mod ChoiceNumbers
+pub mod Refusals
+pub mod CheckKeeps
 pub mod SettleKeeps
 pub mod ShortenKeeps
 pub mod CallsKeep

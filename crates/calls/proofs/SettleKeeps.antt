@@ -1,96 +1,168 @@
 -- What settle's answers promise.
 use mathlib.Core.Path.{_≡_, refl, sym, ap, _∙_}
 use mathlib.Core.Bool.{true, false}
-use mathlib.Core.List.{List}
-use mathlib.Core.Logic.{_≢_}
-use Prim.Native.Nat.{ℕ, _≤_}
-use lib.ListN.{length}
+use mathlib.Core.List.{List, [], _∷_}
+use mathlib.Core.Logic.{_≢_, _↔_}
+use Prim.Native.Nat.{ℕ, zero, suc, _≤_}
+use native.Mathlib.Omega.{arith}
+use lib.ListN.{length, take, drop, length-append, length-drop}
+use lib.Seq.{take-at, drop-at}
+use Rattle.base.specs.Claims.{First}
+use Rattle.base.specs.Faults.{firstFault}
+use Rattle.base.proofs.Cases.{case}
+use Rattle.base.proofs.Faults.{first-answered, fault-stops, fault-passes, last-fault}
+use Rattle.base.proofs.Tests.{never}
 use Rattle.sheet.specs.Format.{joints}
 use Rattle.sheet.specs.Refusals.{sheetFault}
 use Rattle.sheet.specs.Square.{squareOf}
 use Rattle.sheet.proofs.PromiseKept.{accepted-square}
-use Rattle.matching.specs.declared.Checked.the-variants as C
-use Rattle.matching.specs.Matchings.{isSuperStable}
-use Rattle.calls.specs.Checks.{checkOf}
-use Rattle.base.proofs.Tests.{never}
-use Rattle.matching.proofs.SuperStableTest.{isSuperStable-means}
-use Rattle.calls.proofs.CheckMeans.{check-holds}
+use Rattle.blocking.specs.declared.Checked.the-variants as C
+use Rattle.blocking.specs.Blocking.{isSuperStable}
+use Rattle.matching.specs.Matchings.{pairCount}
+use Rattle.blocking.proofs.SuperStableTest.{isSuperStable-means}
+use Rattle.writing.specs.Written.{over}
 use Rattle.roommates.specs.PhaseTwo as W
 use Rattle.roommates.specs.Working.{settles}
 use Rattle.roommates.specs.Claims.{Answer, countFor, answer}
 use Rattle.roommates.proofs.Sound.{promise-sound}
 use Rattle.roommates.proofs.PairsWritten.{pairing-length}
 use Rattle.roommates.proofs.Demands.{demands}
+use Rattle.steering.specs.Workings.{workOf}
 use Rattle.calls.specs.declared.Phase.{Phase}
 use Rattle.calls.specs.declared.End.{End}
 use Rattle.calls.specs.declared.End.the-variants as E
 use Rattle.calls.specs.declared.Settled.the-variants as S
-use Rattle.steering.specs.Workings.{workOf}
-use Rattle.calls.specs.Calls.{endOf, partnersOf, settleAnswer, settleBytes, countsOf, over}
+use Rattle.calls.specs.Checks.{checkOf}
+use Rattle.calls.specs.Calls.{partnersOf, settleCall, settledAs, settleAnswer, settleBytes, countsAs, countsOf}
 use Rattle.calls.specs.Claims.{settledNumber, Super, PairingIs, Refuses}
-use Rattle.calls.proofs.RefusalNumbers.{sheet-most, settles-number, no-fault, refuses}
-use Rattle.calls.proofs.AnswerParts.{ended-or, refused-or, paired-end, none-end, settleVerdict, pairs, settleRefusal, settle-is, settle-unrefused, settle-ends, counts-number, Over, over-is}
+use Rattle.calls.proofs.Answers.{Fair, settled-number, settled-says, settled-paired, settled-none, unwritten, unpaired-unwritten}
+use Rattle.calls.proofs.CheckKeeps.{check-keeps}
+use Rattle.calls.proofs.ChoiceNumbers.{settles-number}
+use Rattle.calls.proofs.LawsCalls.{pairs-few}
+use Rattle.calls.proofs.Refusals.{no-fault, refuses}
+use Rattle.sheet.proofs.Numbers.{sheet-most}
 
 -- super-stable matchings are those that check holds good
 check-super : (s m : List ℕ) → sheetFault s ≡ 0 → Super s m → checkOf s m ≡ C.Holds
 check-super s m f h =
     let w = isSuperStable-means (joints s) (squareOf s) m (accepted-square s f) .0 h in
-    check-holds s m .1 (f, w .0, w .1)
+    check-keeps s m .check-holds .1 (f, w .0, w .1)
 
 check-blocked : (s m : List ℕ) → isSuperStable (joints s) (squareOf s) m ≡ false → checkOf s m ≢ C.Holds
 check-blocked s m e h =
-    let w = check-holds s m .0 h in
+    let w = check-keeps s m .check-holds .0 h in
     never _ (isSuperStable-means (joints s) (squareOf s) m (accepted-square s (w .0)) .1 (w .1, w .2)) e
 
--- an end by the theory's answer
-end-for : (v : W.Verdict) (c : ℕ) → endOf v c ≡ endOf v (countFor v c)
-end-for W.going c = refl
-end-for W.none-one c = refl
-end-for W.none-two c = refl
-end-for W.paired c = refl
+-- BUFFERS, with k bytes written over their start
+pub record Over (k : ℕ) (bytes before after : List ℕ) : Type 0 where
+  pub first : take k after ≡ bytes
+  pub past : drop k after ≡ drop k before
+  pub same-length : length after ≡ length before
+
+pub over-is : (k : ℕ) (bytes before after : List ℕ) → after ≡ over bytes before → length bytes ≡ k → k ≤ length before → Over k bytes before after
+over-is k bytes before after e l h = record {
+  first = rw e (take-at bytes (drop (length bytes) before) k l);
+  past = rw e (drop-at bytes (drop (length bytes) before) k l ∙ ap (λ (i : ℕ). drop i before) l);
+  same-length = rw e (simp (length-append, length-drop) (omega arith));
+}
+
+-- the counts' number is the first of the sheet's refusal and that of the choices
+pub counts-number : (f : ℕ) (e : W.End) → countsAs (firstFault (f ∷ [])) e .number ≡ firstFault (f ∷ (e .refusal ∷ []))
+counts-number f e = rw (last-fault f) (go f)
+  where
+    go : (f : ℕ) → countsAs f e .number ≡ firstFault (f ∷ (e .refusal ∷ []))
+    go zero = sym (fault-passes 0 _ refl ∙ last-fault (e .refusal))
+    go (suc k) = sym (fault-stops (suc k) _ (λ z. omega arith))
+
+-- an answer by the theory's: a count matters beside a pairing only
+settled-for : (v : W.Verdict) (c : ℕ) → settledAs 0 v c ≡ settledAs 0 v (countFor v c)
+settled-for W.going c = refl
+settled-for W.none-one c = refl
+settled-for W.none-two c = refl
+settled-for W.paired c = refl
+
+-- THE CALL: its first refusal, its working's verdict, its count
+abbrev pub verdictOn : List ℕ → List ℕ → W.Verdict
+verdictOn s cs = settles (joints s) (squareOf s) cs .verdict
+
+abbrev pub pairsOn : List ℕ → List ℕ → ℕ
+pairsOn s cs = pairCount (partnersOf (joints s) (squareOf s) cs)
 
 module _ (s cs out : List ℕ) where
-  pub settle-unwritten : (k : ℕ) → settleAnswer s cs out ≡ S.Refused k → settleBytes s cs out ≡ out
-  settle-unwritten k h = rw h
+  abbrev fault : ℕ
+  fault = firstFault (settleCall s cs out .faults)
+
+  -- an accepted sheet, room for a pairing, and choices within the rules
+  pub settle-ran : fault ≡ 0 → (sheetFault s ≡ 0) × (joints s ≤ length out) × (settles (joints s) (squareOf s) cs .refusal ≡ 0)
+  settle-ran = no-fault (sheetFault s) (length out) (joints s) _
+
+  pub settle-unrefused : settledNumber (settleAnswer s cs out) ≡ 0 → fault ≡ 0
+  settle-unrefused h = sym (settled-number fault (verdictOn s cs) (pairsOn s cs)) ∙ h
+
+  pub settle-ends : fault ≡ 0 → settleAnswer s cs out ≡ settledAs 0 (verdictOn s cs) (pairsOn s cs)
+  settle-ends h = rw h
+
+  fair : Fair fault (verdictOn s cs)
+  fair e = go fault refl
+    where
+      go : (f : ℕ) → fault ≡ f → 1 ≤ f
+      go zero z =
+          let r = settle-ran z in
+          case (demands s (r .0) .going-refused cs e) (λ i. absurd (omega (arith, r .2))) (λ i. absurd (omega (arith, r .2)))
+      go (suc k) z = omega arith
+
+  says : (k : ℕ) → settleAnswer s cs out ≡ S.Refused k ↔ ((fault ≡ k) × (1 ≤ k))
+  says k = settled-says fault (verdictOn s cs) (pairsOn s cs) k fair
+
+  pub settle-first : (k : ℕ) → settleAnswer s cs out ≡ S.Refused k ↔ First k (settleCall s cs out .faults)
+  settle-first k =
+      let b = first-answered (settleCall s cs out .faults) k in
+      (λ h. b .0 (says k .0 h), λ h. says k .1 (b .1 h))
 
   pub settle-refuses : Refuses (sheetFault s) (countsOf true s cs .number) (joints s) (length out) (λ k. settleAnswer s cs out ≡ S.Refused k)
   unfolding workOf
   settle-refuses =
-      rw (counts-number true s cs)
-      (refuses (length out) (joints s) (settles (joints s) (squareOf s) cs .refusal) (sheetFault s) (sheet-most s)
+      rw (counts-number (sheetFault s) (settles (joints s) (squareOf s) cs))
+      (refuses (sheetFault s) (length out) (joints s) (settles (joints s) (squareOf s) cs .refusal) (sheet-most s)
       (λ f. settles-number (promise-sound (accepted-square s f)) cs)
       (λ k. settleAnswer s cs out ≡ S.Refused k)
-      (λ k. rw (settle-is s cs out) (refused-or (settleRefusal s cs out) (endOf (settleVerdict s cs) (pairs s cs)) k)))
+      says)
 
-  -- a call that ends: an accepted sheet, room for a pairing, and choices within the rules
+  pub settle-unwritten : (k : ℕ) → settleAnswer s cs out ≡ S.Refused k → settleBytes s cs out ≡ out
+  settle-unwritten k h = let r = says k .0 h in unwritten fault (verdictOn s cs) _ out (omega (arith, r .0, r .1))
+
+  -- a call that ends with x
   module _ (x : End) (h : settleAnswer s cs out ≡ S.Ended x) where
-    parts : (settleRefusal s cs out ≡ 0) × (endOf (settleVerdict s cs) (pairs s cs) ≡ x)
-    parts = ended-or (settleRefusal s cs out) (endOf (settleVerdict s cs) (pairs s cs)) x (sym (settle-is s cs out) ∙ h)
+    none-refused : fault ≡ 0
+    none-refused = settle-unrefused (ap settledNumber h)
 
-    ran : (sheetFault s ≡ 0) × (joints s ≤ length out) × (settles (joints s) (squareOf s) cs .refusal ≡ 0)
-    ran = no-fault (sheetFault s) (length out) (joints s) _ (parts .0)
+    ended : settledAs 0 (verdictOn s cs) (pairsOn s cs) ≡ S.Ended x
+    ended = sym (settle-ends none-refused) ∙ h
 
   pub settle-none : (p : Phase) → settleAnswer s cs out ≡ S.Ended (E.None p)
       → (settleBytes s cs out ≡ out) × ((m : List ℕ) → (isSuperStable (joints s) (squareOf s) m ≡ false) × (checkOf s m ≢ C.Holds))
   settle-none p h =
-      let r = ran (E.None p) h in
-      let blocked : (m : List ℕ) → isSuperStable (joints s) (squareOf s) m ≡ false
-      = λ m. demands s (r .0) .none-is cs m (r .2) (none-end (settleVerdict s cs) (pairs s cs) p (parts (E.None p) h .1)) in
-      (rw h, λ m. (blocked m, check-blocked s m (blocked m)))
+      let r = settle-ran (none-refused (E.None p) h) in
+      let other : verdictOn s cs ≢ W.paired = settled-none (verdictOn s cs) (pairsOn s cs) p (ended (E.None p) h) in
+      let blocked : (m : List ℕ) → isSuperStable (joints s) (squareOf s) m ≡ false = λ m. demands s (r .0) .none-is cs m (r .2) other in
+      (unpaired-unwritten fault (verdictOn s cs) _ out other, λ m. (blocked m, check-blocked s m (blocked m)))
 
   pub settle-paired : (k : ℕ) → settleAnswer s cs out ≡ S.Ended (E.Paired k) → PairingIs s out (settleBytes s cs out) k
   settle-paired k h =
-      let r = ran (E.Paired k) h in
-      let v = paired-end (settleVerdict s cs) (pairs s cs) k (parts (E.Paired k) h .1) in
+      let z = none-refused (E.Paired k) h in
+      let r = settle-ran z in
+      let v = settled-paired (verdictOn s cs) (pairsOn s cs) k (ended (E.Paired k) h) in
       let d = demands s (r .0) in
-      let w : settleBytes s cs out ≡ over (partnersOf (joints s) (squareOf s) cs) out = rw h in
+      let w : settleBytes s cs out ≡ over (partnersOf (joints s) (squareOf s) cs) out = rw (z, v .0) refl in
       let o : Over (joints s) (partnersOf (joints s) (squareOf s) cs) out (settleBytes s cs out)
-      = over-is (joints s) (partnersOf (joints s) (squareOf s) cs) out (settleBytes s cs out) w (pairing-length (joints s) (joints s) _) (r .1) in
+      = over-is (joints s) (partnersOf (joints s) (squareOf s) cs) out (settleBytes s cs out) w
+      (pairing-length (joints s) (settles (joints s) (squareOf s) cs .work-is .lists)) (r .1) in
       let good : Super s (partnersOf (joints s) (squareOf s) cs) = d .is-super cs (r .2) (v .0) in
       record {
         super-stable = rw (o .first) good;
         checked = rw (o .first) (check-super s _ (r .0) good);
         pairs = rw (o .first) (v .1);
+        at-most = omega (arith, v .1, pairs-few (joints s) (accepted-square s (r .0) .few-joints) (settles (joints s) (squareOf s) cs .work-is .lists));
         same-joints = λ m super a l. rw (o .first) (d .same-joints cs m a (r .2) (v .0) super l);
         past = o .past;
         same-length = o .same-length;
@@ -102,9 +174,9 @@ pub settle-same : (s cs ds out out′ : List ℕ) → settledNumber (settleAnswe
 settle-same s cs ds out out′ h g =
     let y = settle-unrefused s cs out h in
     let z = settle-unrefused s ds out′ g in
-    let p = no-fault (sheetFault s) (length out) (joints s) _ y in
-    let q = no-fault (sheetFault s) (length out′) (joints s) _ z in
+    let p = settle-ran s cs out y in
+    let q = settle-ran s ds out′ z in
     let e : answer (joints s) (squareOf s) cs ≡ answer (joints s) (squareOf s) ds = demands s (p .0) .one-answer cs ds (p .2) (q .2) in
-    let x : endOf (settleVerdict s cs) (pairs s cs) ≡ endOf (settleVerdict s ds) (pairs s ds)
-    = end-for (settleVerdict s cs) (pairs s cs) ∙ ap (λ (a : Answer). endOf (a .verdict) (a .count)) e ∙ sym (end-for (settleVerdict s ds) (pairs s ds)) in
-    settle-ends s cs out y ∙ ap S.Ended x ∙ sym (settle-ends s ds out′ z)
+    settle-ends s cs out y ∙ settled-for (verdictOn s cs) (pairsOn s cs)
+    ∙ ap (λ (a : Answer). settledAs 0 (a .verdict) (a .count)) e
+    ∙ sym (settled-for (verdictOn s ds) (pairsOn s ds)) ∙ sym (settle-ends s ds out′ z)

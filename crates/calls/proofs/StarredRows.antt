@@ -2,24 +2,26 @@
 use mathlib.Core.Path.{_≡_, refl}
 use mathlib.Core.List.{[], _∷_, _++_}
 use lib.ListN.{replicate}
-use Rattle.sheet.specs.Format.{entryIn, entriesFrom, bandIn}
-use Rattle.sheet.specs.Refusals.{sheetFault, visibleRun, allZero, labelOk, sameBytes, repeats, labelBad, labelsFault, entryFault, entriesFault, unreturned, rankingsFault}
-use Rattle.base.specs.Below.{anyBelow, lowestFrom}
-use Rattle.sheet.specs.Square.{squareUpTo}
-use Rattle.matching.specs.Matchings.{isPaired, isPlaced, allPlaced, isMatching, welcomes, isApart, blocks, blockerFrom, blocker, blockingFrom, blockingPair}
-use Rattle.matching.specs.Answers.{offerOf}
-use Rattle.roommates.specs.Lists.{listLength, bestBand, worstBand, bandSize, firstOn, strikeIf}
-use Rattle.roommates.specs.PhaseOne.{anyStands, listWaits, standingAt, proposed, proposeAll, receiveAll, step, phaseOneFrom, someEmptied}
+use Rattle.base.specs.Below.{anyBelow, allBelow, countBelow, lowestFrom, joined}
+use Rattle.base.specs.Faults.{firstFault, faultBelow}
+use Rattle.sections.specs.Labels.{visibleRun, allZero, labelOk, sameBytes, repeats, labelBad, labelsFault}
+use Rattle.sections.specs.Entries.{entryIn, entriesFrom, bandIn, entryFault}
+use Rattle.sheet.specs.Refusals.{unreturned, sheetFaults, sheetFault}
+use Rattle.sheet.specs.Square.{squareUpTo, emptyAcross}
+use Rattle.matching.specs.Matchings.{isPaired, isPlaced, isMatching, pairedJoints, aloneCount}
+use Rattle.blocking.specs.Blocking.{welcomes, isApart, blocks, blocker, blockingPair, isSuperStable}
+use Rattle.blocking.specs.Answers.{offerOf}
+use Rattle.roommates.specs.Lists.{bestBand, worstBand, firstOn, strikeIf}
+use Rattle.roommates.specs.PhaseOne.{listWaits, proposed, proposeAll, receiveAll, step, phaseOneFrom, someEmptied}
 use Rattle.roommates.specs.PhaseTwo.{trial, noneEmptied, cutAt, phaseTwoFrom}
-use Rattle.roommates.specs.Working.{afterOne, settles, partnerOn, partnersUpTo, pairedJoints}
-use Rattle.calls.specs.Calls.{settleFault, settledOf}
-use Rattle.calls.specs.Rows.{isIn, bandFrom, entriesBelow, entriesOnward, letters, sheetOf, sheet-g, AllHold, rows}
+use Rattle.roommates.specs.Working.{afterOne, settles, shortens, partnerOn, pairingOf, entry, listBytes}
+use Rattle.calls.specs.Rows.{isIn, bandFrom, entriesOnward, sheetOf, sheet-g, AllHold, rows}
 
 -- the bytes of row g's sheet
 pub sheet-g-bytes : sheet-g
     ≡ 4 ∷ (97 ∷ replicate 15 0) ++ (98 ∷ replicate 15 0) ++ (99 ∷ replicate 15 0) ++ (100 ∷ replicate 15 0)
     ++ (8 ∷ 0 ∷ 0 ∷ 1 ∷ 1 ∷ 0 ∷ 3 ∷ 2 ∷ 1 ∷ 0 ∷ 2 ∷ 1 ∷ 2 ∷ 1 ∷ 2 ∷ 1 ∷ 2 ∷ 2 ∷ 3 ∷ 1 ∷ 3 ∷ 0 ∷ 1 ∷ 3 ∷ 2 ∷ 2 ∷ [])
-unfolding isIn bandFrom entriesBelow entriesOnward letters sheetOf
+unfolding isIn bandFrom entriesOnward sheetOf joined
 sheet-g-bytes = refl
 
 -- a row, and the rows after it
@@ -28,7 +30,12 @@ _&_ : {A B : Type 0} → A → B → A × B
 a & b = (a, b)
 
 pub starred : AllHold rows
-unfolding isIn bandFrom entriesBelow entriesOnward letters sheetOf entryIn entriesFrom bandIn sheetFault anyBelow visibleRun allZero labelOk sameBytes repeats labelBad labelsFault entryFault entriesFault unreturned rankingsFault squareUpTo isPaired isPlaced allPlaced isMatching welcomes isApart blocks blockerFrom blocker blockingFrom blockingPair offerOf listLength bestBand worstBand bandSize lowestFrom firstOn strikeIf anyStands listWaits standingAt proposed proposeAll receiveAll step phaseOneFrom someEmptied trial noneEmptied cutAt phaseTwoFrom afterOne settles partnerOn partnersUpTo pairedJoints settleFault settledOf
+unfolding isIn bandFrom entriesOnward sheetOf anyBelow allBelow countBelow lowestFrom joined firstFault
+    faultBelow visibleRun allZero labelOk sameBytes repeats labelBad labelsFault entryIn entriesFrom bandIn
+    entryFault unreturned sheetFaults sheetFault squareUpTo emptyAcross isPaired isPlaced isMatching
+    pairedJoints aloneCount welcomes isApart blocks blocker blockingPair isSuperStable offerOf bestBand
+    worstBand firstOn strikeIf listWaits proposed proposeAll receiveAll step phaseOneFrom someEmptied trial
+    noneEmptied cutAt phaseTwoFrom afterOne settles shortens partnerOn pairingOf entry listBytes
 starred =
     (refl, refl) & (refl, refl) & (refl, refl)
     & (refl, refl) & (refl, refl) & (refl, refl)

@@ -6,13 +6,16 @@ use mathlib.Core.Logic.{_⊎_, _≢_, _↔_}
 use Prim.Native.Nat.{ℕ, _+_, _*_, _/_, _%_, _≤_, _<_}
 use lib.Dec.{eqb}
 use lib.ListN.{length, take, drop}
+use Rattle.base.specs.Claims.{First}
 use Rattle.sheet.specs.Format.{joints, rankCount}
 use Rattle.sheet.specs.Refusals.{sheetFault}
-use Rattle.sheet.specs.Square.{squareOf}
-use Rattle.matching.specs.declared.Checked.the-variants as C
-use Rattle.matching.specs.Matchings.{partner, isSuperStable}
-use Rattle.calls.specs.Checks.{checkOf}
-use Rattle.roommates.specs.Working.{pairCount}
+use Rattle.sheet.specs.Square.{at, squareOf}
+use Rattle.blocking.specs.declared.Checked.the-variants as C
+use Rattle.matching.specs.Matchings.{partner, pairCount}
+use Rattle.blocking.specs.Blocking.{isSuperStable}
+use Rattle.matching.specs.Plain.{Matching}
+use Rattle.blocking.specs.Plain.{SuperStable, LowestBlocking}
+use Rattle.calls.specs.Checks.{checkFaults, checkOf}
 use Rattle.calls.specs.declared.Phase.{Phase}
 use Rattle.calls.specs.declared.Phase.the-variants as P
 use Rattle.calls.specs.declared.End.the-variants as E
@@ -20,7 +23,7 @@ use Rattle.calls.specs.declared.Settled.{Settled}
 use Rattle.calls.specs.declared.Settled.the-variants as S
 use Rattle.calls.specs.declared.Shortened.{Shortened}
 use Rattle.calls.specs.declared.Shortened.the-variants as L
-use Rattle.calls.specs.Calls.{settleAnswer, settleBytes, shortenAnswer, shortenBytes, countsOf}
+use Rattle.calls.specs.Calls.{settleCall, settleAnswer, settleBytes, shortenCall, shortenAnswer, shortenBytes, countsOf}
 
 -- the number of an answer's refusal, 0 where nothing is refused
 abbrev pub settledNumber : Settled → ℕ
@@ -41,6 +44,7 @@ pub record PairingIs (s before after : List ℕ) (k : ℕ) : Type 0 where
   pub super-stable : Super s (take (joints s) after)
   pub checked : checkOf s (take (joints s) after) ≡ C.Holds
   pub pairs : pairCount (take (joints s) after) ≡ k
+  pub at-most : k ≤ 64
   -- every super-stable matching pairs the same joints
   pub same-joints : (m : List ℕ) → Super s m → (a : ℕ) → a < joints s → eqb (partner m a) 255 ≡ eqb (partner (take (joints s) after) a) 255
   -- the bytes past it are unchanged
@@ -49,11 +53,12 @@ pub record PairingIs (s before after : List ℕ) (k : ℕ) : Type 0 where
 
 -- The shortened lists, of k entries: the first 2 + 3 × k bytes of the buffer `after`, which was `before`.
 pub record ListsAre (before after : List ℕ) (k : ℕ) : Type 0 where
+  pub at-most : k ≤ 128 * 127
   pub count-first : take 2 after ≡ (k % 256) ∷ ((k / 256) ∷ [])
   pub past : drop (2 + 3 * k) after ≡ drop (2 + 3 * k) before
   pub same-length : length after ≡ length before
 
--- When a call refuses, both ways. The sheet's own refusal is f (0 for none), `choice` is the one that the counts name beside the working,
+-- When a call refuses, number by number and both ways. The sheet's own refusal is f (0 for none), `choice` is the one that the counts name beside the working,
 -- and `need` bytes are due in a buffer of `room`.
 pub record Refuses (f choice need room : ℕ) (Refused : ℕ → Type 0) : Type 0 where
   pub numbers : (k : ℕ) → Refused k → ((1 ≤ k) × (k ≤ 9)) ⊎ ((11 ≤ k) × (k ≤ 13))
@@ -67,6 +72,8 @@ pub record CallsKeep (s : List ℕ) : Type 0 where
   pub settle-none : (cs out : List ℕ) (p : Phase) → settleAnswer s cs out ≡ S.Ended (E.None p)
       → (settleBytes s cs out ≡ out) × ((m : List ℕ) → (isSuperStable (joints s) (squareOf s) m ≡ false) × (checkOf s m ≢ C.Holds))
   pub settle-refused : (cs out : List ℕ) (k : ℕ) → settleAnswer s cs out ≡ S.Refused k → settleBytes s cs out ≡ out
+  -- the first of its refusals is answered, and with no other number
+  pub settle-first : (cs out : List ℕ) (k : ℕ) → settleAnswer s cs out ≡ S.Refused k ↔ First k (settleCall s cs out .faults)
   pub settle-refuses : (cs out : List ℕ)
       → Refuses (sheetFault s) (countsOf true s cs .number) (joints s) (length out) (λ k. settleAnswer s cs out ≡ S.Refused k)
   -- two calls that refuse nothing: the same verdict, phase and count of pairs
@@ -76,6 +83,7 @@ pub record CallsKeep (s : List ℕ) : Type 0 where
   pub shorten-lists : (cs out : List ℕ) (k : ℕ) → shortenAnswer s cs out ≡ L.Lists k → ListsAre out (shortenBytes s cs out) k
   pub shorten-none : (cs out : List ℕ) → shortenAnswer s cs out ≡ L.None → shortenBytes s cs out ≡ out
   pub shorten-refused : (cs out : List ℕ) (k : ℕ) → shortenAnswer s cs out ≡ L.Refused k → shortenBytes s cs out ≡ out
+  pub shorten-first : (cs out : List ℕ) (k : ℕ) → shortenAnswer s cs out ≡ L.Refused k ↔ First k (shortenCall s cs out .faults)
   pub shorten-refuses : (cs out : List ℕ)
       → Refuses (sheetFault s) (countsOf false s cs .number) (2 + 3 * rankCount s) (length out) (λ k. shortenAnswer s cs out ≡ L.Refused k)
   pub shorten-not-12 : (cs out : List ℕ) → shortenAnswer s cs out ≢ L.Refused 12
@@ -91,5 +99,23 @@ pub record CallsKeep (s : List ℕ) : Type 0 where
   pub few-proposals : (whole : Bool) (cs : List ℕ) → countsOf whole s cs .proposals ≤ joints s * joints s
   pub few-cuts : (whole : Bool) (cs : List ℕ) → 2 * countsOf whole s cs .cuts ≤ rankCount s
   pub no-cuts : (cs : List ℕ) → countsOf false s cs .cuts ≡ 0
+  -- both are small whatever the sheet
+  pub counts-small : (whole : Bool) (cs : List ℕ) → (countsOf whole s cs .proposals ≤ 16384) × (countsOf whole s cs .cuts ≤ 16384)
   -- without choices no accepted sheet is refused
   pub no-choices : (whole : Bool) → sheetFault s ≡ 0 → countsOf whole s [] .number ≡ 0
+
+-- CHECK, for every sheet s and offered pairing m.
+pub record CheckKeeps (s m : List ℕ) : Type 0 where
+  pub check-first : (k : ℕ) → checkOf s m ≡ C.Refused k ↔ First k (checkFaults s m)
+  -- a refused sheet hands on its number; 10: the sheet is accepted, and what is offered is no matching
+  pub check-sheet : (k : ℕ) → 1 ≤ k → k ≤ 8 → checkOf s m ≡ C.Refused k ↔ (sheetFault s ≡ k)
+  pub check-ten : checkOf s m ≡ C.Refused 10
+      ↔ ((sheetFault s ≡ 0) × ((length m ≡ joints s) × Matching (joints s) (at (squareOf s)) (partner m) → ⊥))
+  -- holds: the sheet is accepted, and what is offered is super-stable
+  pub check-holds : checkOf s m ≡ C.Holds
+      ↔ (sheetFault s ≡ 0) × (length m ≡ joints s) × SuperStable (joints s) (at (squareOf s)) (partner m)
+  -- blocked: the sheet is accepted, what is offered is a matching, and the number is that of the lowest blocking pair
+  pub check-blocked : (k : ℕ) → checkOf s m ≡ C.Blocked k
+      ↔ (sheetFault s ≡ 0)
+      × ((length m ≡ joints s) × Matching (joints s) (at (squareOf s)) (partner m))
+      × LowestBlocking (joints s) (at (squareOf s)) (partner m) k

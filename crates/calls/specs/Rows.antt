@@ -2,11 +2,12 @@
 use mathlib.Core.Path.{_≡_}
 use mathlib.Core.Bool.{Bool, false, _||_, cond}
 use mathlib.Core.List.{List, [], _∷_, _++_}
-use Prim.Native.Nat.{ℕ, zero, suc, _+_, _%_, _/_}
+use Prim.Native.Nat.{ℕ, suc, _+_, _%_, _/_}
 use lib.Dec.{eqb}
 use lib.ListN.{length, replicate}
-use Rattle.matching.specs.declared.Checked.{Checked}
-use Rattle.matching.specs.declared.Checked.the-variants as C
+use Rattle.base.specs.Below.{joined}
+use Rattle.blocking.specs.declared.Checked.{Checked}
+use Rattle.blocking.specs.declared.Checked.the-variants as C
 use Rattle.calls.specs.Checks.{checkOf}
 use Rattle.calls.specs.declared.Phase.the-variants as P
 use Rattle.calls.specs.declared.End.the-variants as E
@@ -27,19 +28,17 @@ unfoldable pub bandFrom : ℕ → Ranks → ℕ → ℕ
 bandFrom k [] b = 0
 bandFrom k (tied ∷ worse) b = cond (isIn b tied) k (bandFrom (suc k) worse b)
 
--- a's entries, as bytes, with the candidates below b; those of the joints from a on, n in all
-unfoldable pub entriesBelow : ℕ → ℕ → Ranks → List ℕ
-entriesBelow zero a l = []
-entriesBelow (suc b) a l = entriesBelow b a l ++ cond (eqb (bandFrom 1 l b) 0) [] (a ∷ b ∷ bandFrom 1 l b ∷ [])
+-- a's entries, as bytes, with the candidates below n; those of the joints from a on, n in all
+abbrev pub entriesBelow : ℕ → ℕ → Ranks → List ℕ
+entriesBelow n a l = joined n (λ b. cond (eqb (bandFrom 1 l b) 0) [] (a ∷ b ∷ bandFrom 1 l b ∷ []))
 
 unfoldable pub entriesOnward : ℕ → ℕ → List Ranks → List ℕ
 entriesOnward n a [] = []
 entriesOnward n a (l ∷ lists) = entriesBelow n a l ++ entriesOnward n (suc a) lists
 
 -- n labels a, b, c, ..: a letter, then 15 zero bytes
-unfoldable pub letters : ℕ → List ℕ
-letters zero = []
-letters (suc i) = letters i ++ ((97 + i) ∷ replicate 15 0)
+abbrev pub letters : ℕ → List ℕ
+letters n = joined n (λ i. (97 + i) ∷ replicate 15 0)
 
 -- the sheet of such lists: each section after its count
 abbrev pub counted : List ℕ → List ℕ

@@ -36,23 +36,14 @@ fn count_lists(n: usize, bands: [[u8; 128]; 128], choices: &[u8], whole: bool) -
 pub fn count_working(sheet: &[u8], choices: &[u8], whole: bool) -> Counts
     ensures { λ r. ⌜ r ≡ countsOf whole (now (sheet .entry)) (now (choices .entry)) ⌝ }
 {
-    let reading = sheet::read(sheet);
-    match reading {
+    let mut bands = [[0u8; 128]; 128];
+    let found = sheet::lists(sheet, &mut bands);
+    match found {
         Reading::Refused(number) => Counts {
             number: number,
             proposals: 0,
             cuts: 0,
         },
-        Reading::Accepted {
-            joints,
-            entries,
-            labels: _,
-            rankings,
-        } => count_lists(
-            joints,
-            sheet::square(sheet, rankings, entries),
-            choices,
-            whole,
-        ),
+        Reading::Accepted(parts) => count_lists(parts.joints, bands, choices, whole),
     }
 }

@@ -1,8 +1,8 @@
 // The calls settle, shorten, counts and check over a sheet's bytes.
-pub mod check;
+pub mod checking;
 pub mod counting;
-pub mod settle;
-pub mod shorten;
+pub mod settling;
+pub mod shortening;
 
 // The phase of a working that ended in none.
 pub enum Phase {

@@ -3,8 +3,8 @@
 mod reference;
 mod vectors;
 
+use blocking::Checked;
 use libc::STDOUT_FILENO;
-use matching::Checked;
 use samples::Style;
 ghost use Prim.Native.Nat.{_<_, _≤_};
 
@@ -67,7 +67,7 @@ fn all_vectors(n: usize, bands: &[u8; 64], sheet: &[u8], t: Tally) -> Tally
     let mut v = 0;
     while v < last {
         let m = vectors::vector(v);
-        let answer = as_number(calls::check::check(sheet, &m[0..n]));
+        let answer = as_number(calls::checking::check(sheet, &m[0..n]));
         sum = counted(sum, answer, reference::expected(n, bands, &m));
         v += 1;
     }
@@ -116,7 +116,7 @@ fn print_answer(answer: Checked) {
 
 fn try_one(name: &[u8], sheet: &[u8], pairing: &[u8]) {
     io::write_all(STDOUT_FILENO, name);
-    print_answer(calls::check::check(sheet, pairing));
+    print_answer(calls::checking::check(sheet, pairing));
 }
 
 // Pairings that are no matching of row g's sheet.

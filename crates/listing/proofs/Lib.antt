@@ -1,8 +1,4 @@
--- Laws of writing and of the text.
-pub mod WrittenLaws
-pub mod NumberLaws
+-- Laws of the text, and its claims.
 pub mod LineLaws
-pub mod CountLaws
-pub mod TextShort
 pub mod SheetTexts
-pub mod PrintedExample
+pub mod Examples

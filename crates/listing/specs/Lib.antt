@@ -1,4 +1,4 @@
--- The text that the program `mirror` prints, and how it is written into a buffer.
-pub mod Written
+-- The text that the program `mirror` prints.
 pub mod Text
 pub mod Sheets
+pub mod Claims

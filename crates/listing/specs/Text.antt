@@ -1,62 +1,14 @@
--- The text that `mirror` prints, byte by byte: 10 ends a line, 32 is a blank.
-use mathlib.Core.Bool.{Bool, not, _&&_, cond}
+-- The text that `mirror` prints: for a pairing m of joints whose labels are label 0, label 1 and so on, and for the other answers.
+use mathlib.Core.Path.{_≡_}
+use mathlib.Core.Bool.{Bool, false, not, _&&_, cond}
 use mathlib.Core.List.{List, [], _∷_, _++_}
-use Prim.Native.Nat.{ℕ, zero, suc, _+_, _/_, _%_}
-use lib.Dec.{eqb, ltb, leb}
-use lib.ListN.{getD, take}
-use Rattle.sheet.specs.Format.{labelOf}
-use Rattle.sheet.specs.Refusals.{visibleRun}
-use Rattle.roommates.specs.Working.{pairCount}
-
--- a number below 1000 in decimal: hundreds from 100 on, tens from 10 on, ones
-abbrev pub digit : ℕ → ℕ
-digit d = 48 + d
-
-unfoldable pub decimal : ℕ → List ℕ
-decimal k =
-    cond (leb 100 k) (digit (k / 100) ∷ []) [] ++ (cond (leb 10 k) (digit (k / 10 % 10) ∷ []) [] ++ (digit (k % 10) ∷ []))
-
--- a line of a word and a number
-unfoldable pub numberLine : List ℕ → ℕ → List ℕ
-numberLine word k = word ++ (decimal k ++ (10 ∷ []))
-
--- a label as shown: its bytes before the first zero
-unfoldable pub labelText : List ℕ → ℕ → List ℕ
-labelText s i = take (visibleRun (labelOf s i)) (labelOf s i)
-
-unfoldable pub labelLine : List ℕ → ℕ → List ℕ
-labelLine s i = labelText s i ++ (10 ∷ [])
-
-unfoldable pub pairLine : List ℕ → ℕ → ℕ → List ℕ
-pairLine s i j = labelText s i ++ (32 ∷ labelLine s j)
-
--- Partner bytes m: joint i's partner, 255 for unpaired.
-abbrev pub partner : List ℕ → ℕ → ℕ
-partner m i = getD m i 0
-
-abbrev pub alone : List ℕ → ℕ → Bool
-alone m i = eqb (partner m i) 255
-
--- is i the lower joint of its pair?
-abbrev pub lower : List ℕ → ℕ → Bool
-lower m i = not (alone m i) && ltb i (partner m i)
-
--- the count of unpaired joints
-unfoldable pub aloneCount : List ℕ → ℕ
-aloneCount [] = 0
-aloneCount (b ∷ bs) = cond (eqb b 255) 1 0 + aloneCount bs
-
--- the lines of the joints below n, joint by joint
-unfoldable pub linesBelow : ℕ → (ℕ → List ℕ) → List ℕ
-linesBelow zero line = []
-linesBelow (suc i) line = linesBelow i line ++ line i
-
--- what joint i adds to the pairs' lines, and to the lines of the unpaired
-unfoldable pub pairPart : List ℕ → List ℕ → ℕ → List ℕ
-pairPart s m i = cond (lower m i) (pairLine s i (partner m i)) []
-
-unfoldable pub alonePart : List ℕ → List ℕ → ℕ → List ℕ
-alonePart s m i = cond (alone m i) (labelLine s i) []
+use Prim.Native.Nat.{ℕ, _+_, _*_, _≤_, _<_}
+use lib.Dec.{ltb}
+use lib.ListN.{length}
+use Rattle.base.specs.Below.{joined}
+use Rattle.matching.specs.Matchings.{partner, isAlone, pairCount, aloneCount}
+use Rattle.writing.specs.Decimal.{numberLine}
+use Rattle.labels.specs.Lines.{labelLine, pairLine}
 
 -- "pairs ", "alone ", "none phase ", "refused "
 abbrev pub pairsWord : List ℕ
@@ -71,11 +23,22 @@ noneWord = 110 ∷ 111 ∷ 110 ∷ 101 ∷ 32 ∷ 112 ∷ 104 ∷ 97 ∷ 115 ∷
 abbrev pub refusedWord : List ℕ
 refusedWord = 114 ∷ 101 ∷ 102 ∷ 117 ∷ 115 ∷ 101 ∷ 100 ∷ 32 ∷ []
 
--- a pairing of the n joints of the sheet s: the count of pairs, the pairs by lower joint, the count of unpaired joints, their labels
-unfoldable pub pairingText : List ℕ → ℕ → List ℕ → List ℕ
-pairingText s n m =
+-- is i the lower joint of its pair?
+abbrev pub isLower : List ℕ → ℕ → Bool
+isLower m i = not (isAlone m i) && ltb i (partner m i)
+
+-- what joint i adds to the pairs' lines, and to the lines of the unpaired
+unfoldable pub pairPart : (ℕ → List ℕ) → List ℕ → ℕ → List ℕ
+pairPart label m i = cond (isLower m i) (pairLine (label i) (label (partner m i))) []
+
+unfoldable pub alonePart : (ℕ → List ℕ) → List ℕ → ℕ → List ℕ
+alonePart label m i = cond (isAlone m i) (labelLine (label i)) []
+
+-- a pairing: the count of pairs, the pairs by lower joint, the count of unpaired joints, their labels
+unfoldable pub pairingText : (ℕ → List ℕ) → List ℕ → List ℕ
+pairingText label m =
     numberLine pairsWord (pairCount m)
-    ++ (linesBelow n (pairPart s m) ++ (numberLine aloneWord (aloneCount m) ++ linesBelow n (alonePart s m)))
+    ++ (joined (length m) (pairPart label m) ++ (numberLine aloneWord (aloneCount m) ++ joined (length m) (alonePart label m)))
 
 -- no pairing, with the phase
 abbrev pub noneText : ℕ → List ℕ
@@ -84,3 +47,14 @@ noneText phase = numberLine noneWord phase
 -- a refusal, with its number
 abbrev pub refusedText : ℕ → List ℕ
 refusedText number = numberLine refusedWord number
+
+-- the labels of n joints lie on the sheet s from one place on, before the rankings
+pub record Labelled (s : List ℕ) (labels rankings n : ℕ) : Type 0 where
+  pub few : n ≤ 128
+  pub fit : labels + 16 * n ≤ rankings
+  pub inside : rankings ≤ length s
+
+-- .. and those joints' partners are among them
+pub record Listable (s : List ℕ) (labels rankings : ℕ) (m : List ℕ) : Type 0 where
+  pub labelled : Labelled s labels rankings (length m)
+  pub within : (i : ℕ) → i < length m → isAlone m i ≡ false → partner m i < length m

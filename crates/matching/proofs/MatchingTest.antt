@@ -1,18 +1,20 @@
 -- The test for a matching means the plain statement.
-use mathlib.Core.Path.{_≡_, refl}
+use mathlib.Core.Path.{_≡_}
 use mathlib.Core.Bool.{true}
-use mathlib.Core.Logic.{_⊎_, inl, inr, _↔_}
+use mathlib.Core.Logic.{_⊎_, inl, inr}
 use mathlib.Core.List.{List}
-use Prim.Native.Nat.{ℕ, zero, suc, _+_, _≤_, _<_}
-use native.Mathlib.Omega.{arith}
+use Prim.Native.Nat.{ℕ, _<_}
 use lib.Dec.{eqb, ltb}
 use lib.ListN.{length}
 use borrow.Author.Tests.{eqb-true, ltb-true, eq-eqb, lt-ltb}
 use Rattle.sheet.specs.Square.{at}
-use Rattle.matching.specs.Matchings.{partner, isPaired, isPlaced, allPlaced, isMatching}
-use Rattle.matching.specs.Plain.{Paired, Matching}
-use Rattle.base.proofs.Cases.{case, eq-ne}
-use Rattle.base.proofs.Tests.{and-true, or-true, or-right, cond-both}
+use Rattle.matching.specs.Matchings.{partner, isPaired, isPlaced, isMatching}
+use Rattle.matching.specs.Plain.{Paired}
+use Rattle.matching.specs.Claims.{IsMatchingMeans}
+use Rattle.base.specs.Below.{allBelow}
+use Rattle.base.proofs.Cases.{case}
+use Rattle.base.proofs.AllBelow.{all-true, all-pass}
+use Rattle.base.proofs.Tests.{and-true, or-true, or-right}
 
 module _ (n : ℕ) (t : List (List ℕ)) (m : List ℕ) where
   paired : (a : ℕ) → isPaired n t m a (partner m a) ≡ true → Paired n (at t) (partner m) a
@@ -33,28 +35,22 @@ module _ (n : ℕ) (t : List (List ℕ)) (m : List ℕ) where
       (λ l. rw (eq-eqb (partner m a) 255 l))
       (λ r. or-right (eqb (partner m a) 255) _ (rw (lt-ltb _ _ (r .with-joint), eq-eqb _ _ (r .back), lt-ltb _ _ (r .listed))))
 
-  all-placed : (f a : ℕ) → allPlaced f a n t m ≡ true → (k : ℕ) → a ≤ k → k < a + f → isPlaced n t m k ≡ true
-  unfolding allPlaced
-  all-placed zero a h k l u = absurd (omega arith)
-  all-placed (suc f) a h k l u =
-      let both : (isPlaced n t m a ≡ true) × (allPlaced f (suc a) n t m ≡ true) = cond-both _ _ h in
-      case (eq-ne k a)
-      (λ e. rw e (both .0))
-      (λ ne. all-placed f (suc a) (both .1) k (omega arith) (omega arith))
+-- isMatching passes exactly the pairings of n bytes that are matchings
+pub isMatching-means : IsMatchingMeans
+unfolding isMatching
+isMatching-means n t m = (
+  λ h.
+      let both : (eqb (length m) n ≡ true) × (allBelow n (isPlaced n t m) ≡ true) = and-true _ _ h in
+      (eqb-true _ _ (both .0), record { placed = λ a l. placed n t m a (all-true n _ (both .1) a l) }),
+  λ h. rw (eq-eqb _ _ (h .0)) (all-pass n _ (λ a l. placed-passes n t m a (h .1 .placed a l))),
+)
 
-  all-passes : (f a : ℕ) → ((k : ℕ) → a ≤ k → k < a + f → isPlaced n t m k ≡ true) → allPlaced f a n t m ≡ true
-  unfolding allPlaced
-  all-passes zero a h = refl
-  all-passes (suc f) a h =
-      let here : isPlaced n t m a ≡ true = h a (omega arith) (omega arith) in
-      let rest : allPlaced f (suc a) n t m ≡ true = all-passes f (suc a) (λ k l u. h k (omega arith) (omega arith)) in
-      rw (here, rest)
+-- what the functions that are handed a matching need of it
+module _ (n : ℕ) (t : List (List ℕ)) (m : List ℕ) (matching : isMatching n t m ≡ true) where
+  pub as-many : length m ≡ n
+  as-many = isMatching-means n t m .0 matching .0
 
-  -- isMatching passes exactly the pairings of n bytes that are matchings
-  pub isMatching-means : isMatching n t m ≡ true ↔ (length m ≡ n) × Matching n (at t) (partner m)
-  unfolding isMatching
-  isMatching-means = (
-    λ h. let both : (eqb (length m) n ≡ true) × (allPlaced n 0 n t m ≡ true) = cond-both _ _ h in
-        (eqb-true _ _ (both .0), record { placed = λ a l. placed a (all-placed n 0 (both .1) a (omega arith) (omega arith)) }),
-    λ h. rw (eq-eqb _ _ (h .0)) (all-passes n 0 (λ k l u. placed-passes k (h .1 .placed k (omega arith)))),
-  )
+  pub partner-joint : (a : ℕ) → a < n → (partner m a ≡ 255 → ⊥) → partner m a < n
+  partner-joint a l paired = case (isMatching-means n t m .0 matching .1 .placed a l)
+      (λ u. absurd (paired u))
+      (λ p. p .with-joint)

@@ -5,10 +5,11 @@ use native.Mathlib.Nat.{zero-add, mul-suc, suc-mul}
 use native.Mathlib.Numerals.{sub-one}
 use native.Mathlib.Omega.{arith}
 use Rattle.matching.specs.Matchings.{pairNumber}
+use Rattle.matching.specs.Claims.{PairNumberRises, PairNumberSmall, PairNumberInjective}
 use Rattle.base.proofs.Cases.{case, lt-ge}
 
 -- how many pairs have their higher joint below b
-pub tri : ℕ → ℕ
+tri : ℕ → ℕ
 tri b = b * (b - 1) / 2
 
 doubled : (b : ℕ) → suc b * (suc b - 1) ≡ b * (b - 1) + 2 * b
@@ -36,15 +37,15 @@ up-to b d h =
     omega (arith, tri-rises (d - b) b, ap tri e)
 
 -- whoever the lower joints are, a higher joint further up means a higher number
-pub pairNumber-rises : (a b c d : ℕ) → a < b → b < d → pairNumber a b < pairNumber c d
+pub pairNumber-rises : PairNumberRises
 unfolding tri
 pairNumber-rises a b c d h l = omega (arith, below-next a b h, up-to (suc b) d l)
 
-pub pairNumber-small : (a b : ℕ) → a < b → b < 128 → pairNumber a b ≤ 8127
+pub pairNumber-small : PairNumberSmall
 unfolding tri
 pairNumber-small a b h l = omega (arith, below-next a b h, up-to (suc b) 128 l)
 
-pub pairNumber-injective : (a b c d : ℕ) → a < b → c < d → pairNumber a b ≡ pairNumber c d → (a ≡ c) × (b ≡ d)
+pub pairNumber-injective : PairNumberInjective
 pairNumber-injective a b c d h k e = case (lt-ge b d)
     (λ l. absurd (omega (arith, pairNumber-rises a b c d h l)))
     (λ l. case (lt-ge d b)

@@ -1,4 +1,4 @@
--- Matchings, blocking pairs and the call check: what the contracts cite, and the plain statement behind it.
+-- Matchings: what the contracts cite, the plain statement behind it, and what holds.
 pub mod Matchings
 pub mod Plain
-pub mod Answers
+pub mod Claims

@@ -1,28 +1,13 @@
-ghost use mathlib.Core.Bool.{true};
+// Partner bytes over a sheet's joints and square: whether they are a matching, and what they count.
 ghost use mathlib.Core.Path.{_≡_};
 ghost use Prim.Native.Nat.{_≤_, _<_};
 ghost use lib.ListN.{length};
-ghost use Rattle.matching.specs.Matchings.{partner, isPaired, isPlaced, isMatching, welcomes, isApart, blocks, pairNumber, blocker, blockingPair};
-ghost use Rattle.matching.specs.Answers.{verdictOf, offerOf};
+ghost use Rattle.matching.specs.Matchings.{partner, pairedJoints, pairCount, isPaired, isPlaced, isMatching, pairNumber};
 
-const ALONE: usize = 255;
+// The byte of an unpaired joint.
+pub const ALONE: usize = 255;
 
-// What check answers: a refusal by its number, that the pairing holds, or the lowest blocking pair's number.
-pub enum Checked {
-    Refused(u8),
-    Holds,
-    Blocked(u32),
-}
-
-// The number of the pair of a and b, a below b.
-fn pair_number(a: usize, b: usize) -> usize
-    requires { ⌜ (a < b) × (b < 128) ⌝ }
-    ensures { λ r. ⌜ r ≡ pairNumber a b ⌝ }
-{
-    b * (b - 1) / 2 + a
-}
-
-fn partner(pairing: &[u8], a: usize) -> usize
+pub fn partner(pairing: &[u8], a: usize) -> usize
     requires { ⌜ a < length (now pairing) ⌝ }
     ensures { λ r. ⌜ r ≡ partner (now (pairing .entry)) a ⌝ }
 {
@@ -55,7 +40,7 @@ fn is_placed(joints: usize, bands: &[[u8; 128]; 128], pairing: &[u8], a: usize) 
 }
 
 // As many bytes as joints, each joint unpaired or paired with one that it lists and that has it as its partner.
-fn is_matching(joints: usize, bands: &[[u8; 128]; 128], pairing: &[u8]) -> bool
+pub fn is_matching(joints: usize, bands: &[[u8; 128]; 128], pairing: &[u8]) -> bool
     requires { ⌜ joints ≤ 128 ⌝ }
     ensures { λ r. ⌜ r ≡ isMatching joints (now (bands .entry)) (now (pairing .entry)) ⌝ }
 {
@@ -72,85 +57,31 @@ fn is_matching(joints: usize, bands: &[[u8; 128]; 128], pairing: &[u8]) -> bool
     true
 }
 
-// a is unpaired, or has b in a band no worse than its partner's.
-fn welcomes(joints: usize, bands: &[[u8; 128]; 128], pairing: &[u8], a: usize, b: usize) -> bool
-    requires { ⌜ (joints ≤ 128) × (isMatching joints (now bands) (now pairing) ≡ true) × (a < joints) × (b < joints) ⌝ }
-    ensures { λ r. ⌜ r ≡ welcomes (now (bands .entry)) (now (pairing .entry)) a b ⌝ }
+// How many joints the bytes pair.
+pub fn count_paired(pairing: &[u8]) -> usize
+    ensures { λ r. ⌜ r ≡ pairedJoints (now (pairing .entry)) ⌝ }
 {
-    let p = partner(pairing, a);
-    let offered = bands[a][b];
-    if p == ALONE {
-        return true;
-    }
-    offered <= bands[a][p]
-}
-
-// a and b list each other and are not paired together.
-fn is_apart(bands: &[[u8; 128]; 128], pairing: &[u8], a: usize, b: usize) -> bool
-    requires { ⌜ (a < 128) × (b < 128) × (a < length (now pairing)) ⌝ }
-    ensures { λ r. ⌜ r ≡ isApart (now (bands .entry)) (now (pairing .entry)) a b ⌝ }
-{
-    if bands[a][b] == 0 {
-        return false;
-    }
-    if bands[b][a] == 0 {
-        return false;
-    }
-    partner(pairing, a) != b
-}
-
-fn blocks(joints: usize, bands: &[[u8; 128]; 128], pairing: &[u8], a: usize, b: usize) -> bool
-    requires { ⌜ (joints ≤ 128) × (isMatching joints (now bands) (now pairing) ≡ true) × (a < joints) × (b < joints) ⌝ }
-    ensures { λ r. ⌜ r ≡ blocks (now (bands .entry)) (now (pairing .entry)) a b ⌝ }
-{
-    if !is_apart(bands, pairing, a, b) {
-        return false;
-    }
-    if !welcomes(joints, bands, pairing, a, b) {
-        return false;
-    }
-    welcomes(joints, bands, pairing, b, a)
-}
-
-// The lowest joint below b that blocks with b; b where none does.
-fn blocker(joints: usize, bands: &[[u8; 128]; 128], pairing: &[u8], b: usize) -> usize
-    requires { ⌜ (joints ≤ 128) × (isMatching joints (now bands) (now pairing) ≡ true) × (b < joints) ⌝ }
-    ensures { λ r. ⌜ r ≡ blocker (now (bands .entry)) (now (pairing .entry)) b ⌝ }
-{
-    let mut low = b;
+    let mut joints: usize = 0;
     let mut a = 0;
-    while a < low {
-        if blocks(joints, bands, pairing, a, b) {
-            low = a;
+    while a < pairing.len() {
+        if partner(pairing, a) != ALONE {
+            joints += 1;
         }
         a += 1;
     }
-    low
+    joints
 }
 
-// A matching holds, or is blocked by the lowest pair that blocks it.
-fn verdict(joints: usize, bands: &[[u8; 128]; 128], pairing: &[u8]) -> Checked
-    requires { ⌜ (joints ≤ 128) × (isMatching joints (now bands) (now pairing) ≡ true) ⌝ }
-    ensures { λ r. ⌜ r ≡ verdictOf (blockingPair joints (now (bands .entry)) (now (pairing .entry))) ⌝ }
+pub fn count_pairs(pairing: &[u8]) -> usize
+    ensures { λ r. ⌜ r ≡ pairCount (now (pairing .entry)) ⌝ }
 {
-    let mut b = 0;
-    while b < joints {
-        let a = blocker(joints, bands, pairing, b);
-        if a < b {
-            return Checked::Blocked(pair_number(a, b) as u32);
-        }
-        b += 1;
-    }
-    Checked::Holds
+    count_paired(pairing) / 2
 }
 
-// The answer to an offered pairing over an accepted sheet's joints and square.
-pub fn offer(joints: usize, bands: &[[u8; 128]; 128], pairing: &[u8]) -> Checked
-    requires { ⌜ joints ≤ 128 ⌝ }
-    ensures { λ r. ⌜ r ≡ offerOf joints (now (bands .entry)) (now (pairing .entry)) ⌝ }
+// The number of the pair of a and b, a below b.
+pub fn pair_number(a: usize, b: usize) -> usize
+    requires { ⌜ (a < b) × (b < 128) ⌝ }
+    ensures { λ r. ⌜ r ≡ pairNumber a b ⌝ }
 {
-    if !is_matching(joints, bands, pairing) {
-        return Checked::Refused(10);
-    }
-    verdict(joints, bands, pairing)
+    b * (b - 1) / 2 + a
 }

@@ -1,7 +1,7 @@
 -- The calls' answers as C has them: one number whose lowest byte is the refusal's number, 0 for none.
 use Prim.Native.Nat.{ℕ, _+_, _*_, _^_}
-use Rattle.matching.specs.declared.Checked.{Checked}
-use Rattle.matching.specs.declared.Checked.the-variants as K
+use Rattle.blocking.specs.declared.Checked.{Checked}
+use Rattle.blocking.specs.declared.Checked.the-variants as K
 use Rattle.calls.specs.declared.Phase.the-variants as P
 use Rattle.calls.specs.declared.End.the-variants as E
 use Rattle.calls.specs.declared.Settled.{Settled}
@@ -9,6 +9,10 @@ use Rattle.calls.specs.declared.Settled.the-variants as S
 use Rattle.calls.specs.declared.Shortened.{Shortened}
 use Rattle.calls.specs.declared.Shortened.the-variants as L
 use Rattle.calls.specs.declared.Counts.{Counts}
+
+-- The version of the interface: raised by each landing that changes the meaning or the signature of a call.
+abbrev pub version : ℕ
+version = 1
 
 -- a refusal's number, a verdict and a count in 32 bits
 abbrev pub packed : ℕ → ℕ → ℕ → ℕ

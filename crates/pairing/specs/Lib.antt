@@ -1,2 +1,3 @@
 -- The calls' answers as C has them.
 pub mod CCodes
+pub mod Claims

@@ -1,2 +1,2 @@
--- Laws of the definitions, in the steps of the loops that compute them.
+-- Laws that the functions' proofs cite.
 pub mod LawsResults

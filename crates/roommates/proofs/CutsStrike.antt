@@ -34,7 +34,7 @@ module _ {n : ℕ} {t : Square} (s : Sound n t) (v : ℕ) where
   trial-shrunk = shrunk-trans (strike-band-shrunk s v (worstBand n (row t v))) trial-after
 
   -- the pairs of v's worst band go, one at least
-  pub trial-strikes : v < n → 0 < listLength n (row t v) → entryCount n n (trial n t v) + 2 ≤ entryCount n n t
+  pub trial-strikes : v < n → 0 < listLength n (row t v) → entryCount n (trial n t v) + 2 ≤ entryCount n t
   trial-strikes lv some =
       let l : List ℕ = row t v in
       let u : Square = trial n t v in
@@ -73,7 +73,7 @@ choose false false f g u e = absurd (let z : _≡_ {A = ℕ} 0 1 = cc in omega a
 
 -- the trial at v left no list empty but those set aside
 abbrev pub passes : ℕ → Square → Square → ℕ → Bool
-passes n one t v = noneEmptied n n one (trial n t v)
+passes n one t v = noneEmptied n one (trial n t v)
 
 pub cut-neither : (n : ℕ) (one t : Square) (x : ℕ) → cutAt n one t x ≡ neither
     → (passes n one t (firstOn n (row t x)) ≡ false) × (passes n one t x ≡ false)
@@ -88,7 +88,7 @@ cut-trial n one t x u e = choose (passes n one t (firstOn n (row t x))) (passes 
 -- What a kept cut leaves.
 pub record CutTo (n : ℕ) (t u : Square) : Type 0 where
   pub shrunk : Shrunk t u
-  pub less : entryCount n n u + 2 ≤ entryCount n n t
+  pub less : entryCount n u + 2 ≤ entryCount n t
 
 pub trial-cut : {n : ℕ} {t : Square} → Sound n t → (v : ℕ) → v < n → 0 < listLength n (row t v) → CutTo n t (trial n t v)
 trial-cut s v lv some = record { shrunk = trial-shrunk s v; less = trial-strikes s v lv some }

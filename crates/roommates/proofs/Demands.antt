@@ -8,7 +8,7 @@ use Rattle.sheet.specs.Format.{joints}
 use Rattle.sheet.specs.Square.{SquarePromise, squareOf}
 use Rattle.sheet.proofs.PromiseKept.{accepted-square}
 use Rattle.base.proofs.Cases.{case, both-ways}
-use Rattle.matching.specs.Matchings.{isSuperStable}
+use Rattle.blocking.specs.Blocking.{isSuperStable}
 use Rattle.roommates.specs.Lists.{Square}
 use Rattle.roommates.specs.PhaseOne.{Work}
 use Rattle.roommates.specs.PhaseTwo.{none-one, none-two, paired, End}

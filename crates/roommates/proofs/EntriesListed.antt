@@ -5,12 +5,14 @@ use mathlib.Core.List.{List, [], _∷_}
 use Prim.Native.Nat.{ℕ, suc, _+_, _*_, _≤_, _<_}
 use native.Mathlib.Omega.{arith}
 use lib.ListN.{length}
-use Rattle.sheet.specs.declared.Entry.{Entry}
-use Rattle.sheet.specs.Format.{joints, rankCount, rankingsPart, entriesOf, bandIn}
+use Rattle.sections.specs.declared.Entry.{Entry}
+use Rattle.sheet.specs.Format.{joints, rankCount, rankingsPart, entriesOf}
+use Rattle.sections.specs.Entries.{bandIn, entryOf}
 use Rattle.sheet.specs.Square.{squareOf}
-use Rattle.sheet.specs.Promise.{Promise, Before, entryOf}
-use Rattle.sheet.proofs.Entries.{length-entries}
-use Rattle.sheet.proofs.BandIn.{band-here, band-elsewhere, band-nowhere}
+use Rattle.sheet.specs.Promise.{Promise}
+use Rattle.sections.specs.Claims.{Before}
+use Rattle.sections.proofs.EntryList.{length-entries}
+use Rattle.sections.proofs.BandIn.{band-here, band-elsewhere, band-nowhere}
 use Rattle.sheet.proofs.PromiseKept.{accepted-promise, square-is-entries}
 use Rattle.base.proofs.Cases.{case}
 use Rattle.roommates.specs.Claims.{AllListed}
@@ -56,7 +58,7 @@ marks-sum n (e ∷ es) o =
     let old : entryMarks es p q ≡ 0 = mark-none _ (first-apart e es o) in
     let band : bandIn (e ∷ es) p q ≡ e .band = band-here e es p q (refl, refl) in
     let some : 1 ≤ e .band = o .band-above 0 (omega arith) in
-    let new : entryMarks (e ∷ es) p q ≡ 1 = mark-listed _ (omega arith) in
+    let new : entryMarks (e ∷ es) p q ≡ 1 = mark-listed (bandIn (e ∷ es) p q) (omega arith) in
     omega arith in
     let its-row : sumBelow n (entryMarks (e ∷ es) p) ≡ sumBelow n (entryMarks es p) + 1 =
     sum-one-more n (entryMarks es p) (entryMarks (e ∷ es) p) q 1 (o .other-below 0 (omega arith))

@@ -4,18 +4,18 @@ use mathlib.Core.Bool.{Bool, true, false, _&&_, cond}
 use mathlib.Core.List.{List}
 use Prim.Native.Nat.{ℕ, _+_, _*_, _≤_, _<_}
 use native.Mathlib.Omega.{arith}
-use lib.Dec.{ltb, leb}
+use lib.Dec.{eqb, ltb, leb}
 use lib.ListN.{getD, set}
 use lib.Seq.{getD-set-same, getD-set-other}
-use borrow.Author.Tests.{le-leb, lt-leb}
+use borrow.Author.Tests.{le-leb, lt-leb, eq-eqb, ne-eqb}
 use Rattle.sheet.specs.Square.{at}
 use Rattle.base.proofs.Cases.{case, lt-ge, eq-ne}
 use Rattle.roommates.specs.Lists.{Square, row, bestBand, bandSize}
 use Rattle.roommates.specs.PhaseOne.{Work, fresh, waits, step}
 use Rattle.roommates.specs.Runs.{Run, stop, then}
 use Rattle.base.specs.Below.{sumBelow}
+use Rattle.base.proofs.CountBelow.{count-sum}
 use Rattle.base.proofs.SumBelow.{sum-le, sum-bound, sum-add, sum-raise}
-use Rattle.roommates.proofs.EntryCounts.{hit, hit-same, hit-other, size-sum}
 use Rattle.roommates.proofs.Rows.{best-least, best-attained}
 use Rattle.roommates.proofs.Waiting.{waits-listed, waits-standing}
 use Rattle.roommates.proofs.Sound.{Sound, Shrunk, shrunk-refl, shrunk-trans}
@@ -46,18 +46,22 @@ within-past : (k b : ℕ) → k < b → within k b ≡ 0
 unfolding within
 within-past k b lt = rw (le-leb 1 b (omega arith), lt-leb b k lt)
 
+-- 1 for a place in band k
+abbrev hit : ℕ → ℕ → ℕ
+hit k b = cond (eqb b k) 1 0
+
 -- going on from band r to band k takes in the joints of band k, and takes in none twice
 within-more : (r k b c : ℕ) → r < k → (c ≡ k → b ≡ k) → within r b + hit k c ≤ within k b
 within-more r k b c lt h =
     case (eq-ne c k)
     (λ e.
     let be : b ≡ k = h e in
-    let one : hit k c ≡ 1 = hit-same k c e in
+    let one : hit k c ≡ 1 = rw (eq-eqb c k e) in
     let old : within r b ≡ 0 = within-past r b (omega arith) in
     let new : within k b ≡ 1 = within-to k b (omega arith) (omega arith) in
     omega arith)
     (λ ne.
-    let none : hit k c ≡ 0 = hit-other k c ne in
+    let none : hit k c ≡ 0 = rw (ne-eqb c k ne) in
     case (lt-ge 0 b)
     (λ pos.
     case (lt-ge r b)
@@ -84,7 +88,7 @@ asked-le n k l =
 asked-more : (n r k : ℕ) (l m : List ℕ) → r < k → ((b : ℕ) → b < n → getD m b 0 ≡ k → getD l b 0 ≡ k) → asked n r l + bandSize n k m ≤ asked n k l
 unfolding asked
 asked-more n r k l m lt h =
-    rw (size-sum n k m, ← sum-add n (λ b. within r (getD l b 0)) (λ b. hit k (getD m b 0)))
+    rw (count-sum n (λ b. eqb (getD m b 0) k), ← sum-add n (λ b. within r (getD l b 0)) (λ b. hit k (getD m b 0)))
     (sum-le n _ _ (λ b lb. within-more r k (getD l b 0) (getD m b 0) lt (h b lb)))
 
 -- Holds along a run from fresh t: the proposals made are to joints in bands of t up to each joint's reach.

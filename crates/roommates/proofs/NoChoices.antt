@@ -45,7 +45,7 @@ pub settles-unrefused : (n : ℕ) (t : Square) → Sound n t → settles n t [] 
 unfolding settles
 settles-unrefused n t s =
     let r : Ran = phaseOne n (fresh t) [] in
-    after-unrefused n t s _ (by-test Unrefused (someEmptied n n (r .work-is)) _ _
+    after-unrefused n t s _ (by-test Unrefused (someEmptied n (r .work-is)) _ _
     (λ e. none-left (r .used))
     (λ e. two-unrefused (fuel n) n (r .work-is .lists) (r .work-is) (r .used)))
 

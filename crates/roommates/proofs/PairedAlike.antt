@@ -9,7 +9,8 @@ use lib.Dec.{eqb}
 use borrow.Author.Tests.{eq-eqb, ne-eqb}
 use Rattle.sheet.specs.Square.{at, SquarePromise}
 use Rattle.base.proofs.Cases.{case, lt-ge}
-use Rattle.matching.specs.Matchings.{partner, isSuperStable}
+use Rattle.matching.specs.Matchings.{partner}
+use Rattle.blocking.specs.Blocking.{isSuperStable}
 use Rattle.roommates.specs.Lists.{Square, row, listLength}
 use Rattle.roommates.specs.PhaseOne.{Work}
 use Rattle.roommates.specs.Working.{pairingOf}
@@ -30,10 +31,10 @@ module _ {n : ℕ} {t : Square} (promise : SquarePromise n t) where
   pub pairing-super : {w : Work} {u : Square} → Pairing n t w u → isSuperStable n t (pairingOf n u) ≡ true
   pairing-super {w} {u} p =
       let stable : Stable (at t) (partnerIn n u) = pairing-is-stable s p in
-      stable-super promise (pairingOf n u) (pairing-length n n u)
+      stable-super promise (pairingOf n u) (pairing-length n u)
       (λ a l. case (lt-ge 0 (listLength n (row u a)))
       (λ h. inr (pairs-all s (p .one) stable a (had-list s (p .one) (p .unemptied) (p .made) a h)))
-      (λ h. inl (pairing-at n n u a l ∙ partner-none n (row u a) (omega arith))))
+      (λ h. inl (pairing-at n u a l ∙ partner-none n (row u a) (omega arith))))
       stable
 
   pub unpaired-alike : {w : Work} → OneEnded n t w → (m : List ℕ) → isSuperStable n t m ≡ true → (a : ℕ) → a < n

@@ -45,10 +45,10 @@ module _ {n : ℕ} {t : Square} {w : Work} (s : Sound n t) (e : OneEnded n t w) 
       = first-best n (row (w .lists) p) q (one-sound .inside p q h .1) h in
       (r .1, r .2)
 
-  pub one-none-empty : someEmptied n n w ≡ false → NoneEmpty (stateOf w)
+  pub one-none-empty : someEmptied n w ≡ false → NoneEmpty (stateOf w)
   one-none-empty h q g = none-emptied n w h q (s .inside q _ (invariant .received q g .1) .0) g
 
-  pub one-table : someEmptied n n w ≡ false → Table (at t) (HasList n (w .lists)) (at (w .lists))
+  pub one-table : someEmptied n w ≡ false → Table (at t) (HasList n (w .lists)) (at (w .lists))
   one-table h =
       phase-end-table one-end (has-list one-sound) (on-list n (w .lists))
       λ q g. let r : (b : ℕ) × (0 < at (w .lists) q b) = one-none-empty h q g in has-list one-sound q (r .0) (r .1)
@@ -67,7 +67,7 @@ module _ {n : ℕ} {t : Square} {w : Work} (s : Sound n t) (e : OneEnded n t w) 
     pairs-only p h = has-list one-sound p (M p) (one-on p h)
 
     -- .. and there is none where a joint received and has an empty list
-    pub none-where-emptied : someEmptied n n w ≡ true → ⊥
+    pub none-where-emptied : someEmptied n w ≡ true → ⊥
     none-where-emptied h =
         let r : (a : ℕ) × (a < n) × (stateOf w .Received a) × ((b : ℕ) → at (w .lists) a b ≡ 0) = some-emptied n w one-sound h in
         ReceivedEmpty stable (below-refl (s .both)) one-on invariant (r .0) (r .2) λ b l. let z : at (w .lists) (r .0) b ≡ 0 = r .3 b in omega arith

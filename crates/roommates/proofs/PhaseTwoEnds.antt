@@ -33,7 +33,7 @@ partnerIn n u p = getD (pairingOf n u) p 255
 pub short-lists : (n : ℕ) (u : Square) → ((x : ℕ) → x < n → longer n u x ≡ false) → AtMostOne n u
 short-lists n u short x l = let h : listLength n (row u x) < 2 = leb-false 2 (listLength n (row u x)) (short x l) in omega arith
 
-module _ {n : ℕ} {t u : Square} {w : Work} (s : Sound n t) (e : OneEnded n t w) (ok : someEmptied n n w ≡ false)
+module _ {n : ℕ} {t u : Square} {w : Work} (s : Sound n t) (e : OneEnded n t w) (ok : someEmptied n w ≡ false)
     (made : Cuts n (w .lists) (w .lists) u) where
   sound₁ : Sound n (w .lists)
   sound₁ = one-sound s e
@@ -63,7 +63,7 @@ module _ {n : ℕ} {t u : Square} {w : Work} (s : Sound n t) (e : OneEnded n t w
       (λ l. had-list p l)
       (λ l.
       let m : (p < n) × (partnerIn n u p < n) = s .inside p (partnerIn n u p) h in
-      let z : partnerIn n u p ≡ 255 = pairing-at n n u p (m .0) ∙ partner-none n (row u p) (omega arith) in
+      let z : partnerIn n u p ≡ 255 = pairing-at n u p (m .0) ∙ partner-none n (row u p) (omega arith) in
       let few : n ≤ 128 = s .few-joints in
       absurd (omega arith))
 
@@ -80,7 +80,7 @@ module _ {n : ℕ} {t u : Square} {w : Work} (s : Sound n t) (e : OneEnded n t w
     partner-first p h =
         let l : 0 < at u p (left-table .first p) = left-table .has-first p h in
         let m : (p < n) × (left-table .first p < n) = left-sound .inside p (left-table .first p) l in
-        pairing-at n n u p (m .0) ∙ partner-only n (row u p) (short p (m .0)) (left-table .first p) (m .1) l
+        pairing-at n u p (m .0) ∙ partner-only n (row u p) (short p (m .0)) (left-table .first p) (m .1) l
 
     pub pairing-stable : Stable (at t) (partnerIn n u)
     pairing-stable = single-stable left-table single (partnerIn n u) partner-first paired-has

@@ -48,8 +48,8 @@ pub data TwoEnd (n : ℕ) (one : Square) (r : End) : Type 0 where
 pub record TwoStopped (n : ℕ) (one : Square) (w : Work) (f : ℕ) (r : End) : Type 0 where
   pub made : Cuts n one (w .lists) (r .work-is .lists)
   pub same-proposals : r .work-is .proposals ≡ w .proposals
-  pub few-cuts : 2 * r .work-is .cuts ≤ 2 * w .cuts + entryCount n n (w .lists)
-  pub how : TwoEnd n one r ⊎ (2 * f ≤ entryCount n n (w .lists))
+  pub few-cuts : 2 * r .work-is .cuts ≤ 2 * w .cuts + entryCount n (w .lists)
+  pub how : TwoEnd n one r ⊎ (2 * f ≤ entryCount n (w .lists))
 
 pub phase-two-stops : (f n : ℕ) (one : Square) (w : Work) → Sound n (w .lists) → (cs : List ℕ) (i : ℕ) → TwoStopped n one w f (phaseTwoFrom f n one w cs i)
 unfolding phaseTwoFrom
@@ -85,7 +85,7 @@ phase-two-stops (suc f) n one w s cs i =
     })
     (λ k.
     let two : 2 ≤ listLength n (row t x) = longer-two n t x (b .1) in
-    let all : listLength n (row t x) ≤ entryCount n n t = entries-list n t x lx in
+    let all : listLength n (row t x) ≤ entryCount n t = entries-list n t x lx in
     record {
       made = uncut;
       same-proposals = refl;
@@ -99,4 +99,4 @@ pub phase-two-ends : (n : ℕ) (one : Square) (w : Work) → Sound n (w .lists) 
 phase-two-ends n one w s cs i =
     case (phase-two-stops (fuel n) n one w s cs i .how)
     (λ h. h)
-    (λ out. let few : entryCount n n (w .lists) ≤ n * n = entries-bound n (w .lists) in absurd (omega arith))
+    (λ out. let few : entryCount n (w .lists) ≤ n * n = entries-bound n (w .lists) in absurd (omega arith))

@@ -1,37 +1,25 @@
 -- What the definitions over one list say of its places below n: its length, its best and its worst band.
-use mathlib.Core.Path.{_≡_, refl, sym, _∙_, ap₂}
-use mathlib.Core.Bool.{true, cond}
+use mathlib.Core.Path.{_≡_, refl, sym, _∙_}
+use mathlib.Core.Bool.{true}
 use mathlib.Core.Logic.{_⊎_, inl, inr, _≢_}
 use mathlib.Core.List.{List}
-use Prim.Native.Nat.{ℕ, zero, suc, _+_, _≤_, _<_}
+use Prim.Native.Nat.{ℕ, zero, suc, _≤_, _<_}
 use native.Mathlib.Omega.{arith}
-use lib.Dec.{eqb, ltb}
+use lib.Dec.{ltb}
 use lib.ListN.{getD}
 use borrow.Author.Tests.{ltb-true, lt-ltb, le-ltb, eq-eqb, ne-eqb}
 use Rattle.base.proofs.Cases.{case, lt-ge, eq-ne, below-suc}
 use Rattle.roommates.specs.Lists.{listLength, betterBand, bestBand, worstBand}
-use Rattle.base.specs.Below.{countBelow}
 use Rattle.base.proofs.CountBelow.{counted, count-one, two-counted, count-two, Two}
-
-listed-counts : (x : ℕ) → _≡_ {A = ℕ} (cond (eqb x 0) 0 1) (cond (ltb 0 x) 1 0)
-listed-counts x =
-    case (lt-ge 0 x)
-    (λ h. rw (ne-eqb x 0 (omega arith), lt-ltb 0 x h) refl)
-    (λ h. rw (eq-eqb x 0 (omega arith), le-ltb 0 x h) refl)
-
-length-count : (n : ℕ) (l : List ℕ) → listLength n l ≡ countBelow n (λ j. ltb 0 (getD l j 0))
-unfolding listLength countBelow
-length-count zero l = refl
-length-count (suc i) l = ap₂ _+_ (length-count i l) (listed-counts (getD l i 0))
 
 module _ (n : ℕ) (l : List ℕ) where
   pub some-listed : 1 ≤ listLength n l → (j : ℕ) × (j < n) × (0 < getD l j 0)
   some-listed h =
-      let r : (j : ℕ) × (j < n) × (ltb 0 (getD l j 0) ≡ true) = counted n _ (rw (length-count n l) at h) in
+      let r : (j : ℕ) × (j < n) × (ltb 0 (getD l j 0) ≡ true) = counted n _ h in
       (r .0, r .1, ltb-true 0 (getD l (r .0) 0) (r .2))
 
   pub listed-some : (j : ℕ) → j < n → 0 < getD l j 0 → 1 ≤ listLength n l
-  listed-some j h e = rw (length-count n l) (count-one n _ j h (lt-ltb 0 (getD l j 0) e))
+  listed-some j h e = count-one n _ j h (lt-ltb 0 (getD l j 0) e)
 
   pub empty-places : listLength n l ≡ 0 → (j : ℕ) → j < n → getD l j 0 ≡ 0
   empty-places e j h =
@@ -41,11 +29,11 @@ module _ (n : ℕ) (l : List ℕ) where
 
   pub two-listed : 2 ≤ listLength n l → (i : ℕ) × (j : ℕ) × (i < n) × (j < n) × (i ≢ j) × (0 < getD l i 0) × (0 < getD l j 0)
   two-listed h =
-      let r : Two n (λ j. ltb 0 (getD l j 0)) = two-counted n _ (rw (length-count n l) at h) in
+      let r : Two n (λ j. ltb 0 (getD l j 0)) = two-counted n _ h in
       (r .0, r .1, r .2, r .3, r .4, ltb-true 0 (getD l (r .0) 0) (r .5), ltb-true 0 (getD l (r .1) 0) (r .6))
 
   pub listed-two : (i j : ℕ) → i < n → j < n → i ≢ j → 0 < getD l i 0 → 0 < getD l j 0 → 2 ≤ listLength n l
-  listed-two i j h k d e f = rw (length-count n l) (count-two n _ i j h k d (lt-ltb 0 (getD l i 0) e) (lt-ltb 0 (getD l j 0) f))
+  listed-two i j h k d e f = count-two n _ i j h k d (lt-ltb 0 (getD l i 0) e) (lt-ltb 0 (getD l j 0) f)
 
 -- the better of k, which is 0 for none, and one more place b, which is 0 for unlisted
 better-law : (k b : ℕ) → ((b ≡ 0) × (betterBand k b ≡ k))

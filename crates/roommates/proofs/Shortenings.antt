@@ -19,7 +19,7 @@ use Rattle.roommates.proofs.Verdicts.{Says, says-none-one, says-none-tw
 
 pub record Shortened (n : ℕ) (t : Square) (r : End) : Type 0 where
   pub one : OneEnded n t (r .work-is)
-  pub says : r .verdict ≡ cond (someEmptied n n (r .work-is)) none-one paired
+  pub says : r .verdict ≡ cond (someEmptied n (r .work-is)) none-one paired
 
 shorten-end : {n : ℕ} {t : Square} {r : End} → ShortenEnd n t r → r .refusal ≡ 0 → Shortened n t r
 shorten-end (refused-short h) z = let l = h .refusal-is in absurd (omega arith)
@@ -29,19 +29,19 @@ pub shortens-says : {n : ℕ} {t : Square} → Sound n t → (cs : List ℕ) →
 shortens-says {n} {t} s cs z = shorten-end (shortens-ends n t s cs) z
 
 module _ {n : ℕ} {t : Square} where
-  shorten-emptied : {r : End} → Shortened n t r → (r .verdict ≡ none-one) ↔ (someEmptied n n (r .work-is) ≡ true)
-  shorten-emptied {r} h = case (both-ways (someEmptied n n (r .work-is)))
+  shorten-emptied : {r : End} → Shortened n t r → (r .verdict ≡ none-one) ↔ (someEmptied n (r .work-is) ≡ true)
+  shorten-emptied {r} h = case (both-ways (someEmptied n (r .work-is)))
       (λ b. (λ v. b, λ v. h .says ∙ rw b refl))
       (λ b. (λ v. absurd (one-paired v (h .says ∙ rw b refl)), λ v. absurd (never _ v b)))
 
   pub none-or-lists : {r : End} → Shortened n t r → (r .verdict ≡ none-one) ⊎ (r .verdict ≡ paired)
-  none-or-lists {r} h = case (both-ways (someEmptied n n (r .work-is)))
+  none-or-lists {r} h = case (both-ways (someEmptied n (r .work-is)))
       (λ b. inl (h .says ∙ rw b refl))
       (λ b. inr (h .says ∙ rw b refl))
 
 module _ {n : ℕ} {t : Square} (s : Sound n t) where
   -- whether settle says none in phase one, by any end of phase one
-  settle-emptied : {r : End} {w : Work} → Says n t r → OneEnded n t w → (r .verdict ≡ none-one) ↔ (someEmptied n n w ≡ true)
+  settle-emptied : {r : End} {w : Work} → Says n t r → OneEnded n t w → (r .verdict ≡ none-one) ↔ (someEmptied n w ≡ true)
   settle-emptied (says-none-one v w e bad) d = (λ h. ends-emptied s d e ∙ bad, λ h. v)
   settle-emptied (says-none-two v w e ok nil) d = (λ h. absurd (one-two h v), λ h. absurd (never _ h (ends-emptied s d e ∙ ok)))
   settle-emptied (says-paired v w p) d = (λ h. absurd (one-paired h v), λ h. absurd (never _ h (ends-emptied s d (p .one) ∙ p .unemptied)))
@@ -55,7 +55,7 @@ module _ {n : ℕ} {t : Square} (s : Sound n t) where
   pub same-bytes : {r q : End} → Shortened n t r → Shortened n t q → r .verdict ≢ none-one
       → listBytes n (r .work-is .lists) ≡ listBytes n (q .work-is .lists)
   same-bytes {r} {q} h k d =
-      let okr : someEmptied n n (r .work-is) ≡ false
-      = case (both-ways (someEmptied n n (r .work-is))) (λ b. absurd (d (shorten-emptied h .1 b))) (λ b. b) in
-      let okq : someEmptied n n (q .work-is) ≡ false = ends-emptied s (k .one) (h .one) ∙ okr in
+      let okr : someEmptied n (r .work-is) ≡ false
+      = case (both-ways (someEmptied n (r .work-is))) (λ b. absurd (d (shorten-emptied h .1 b))) (λ b. b) in
+      let okq : someEmptied n (q .work-is) ≡ false = ends-emptied s (k .one) (h .one) ∙ okr in
       bytes-same n (r .work-is .lists) (q .work-is .lists) (λ a b la lb. ends-agree s (h .one) (k .one) okr okq a b)

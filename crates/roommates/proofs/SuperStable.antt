@@ -1,4 +1,4 @@
--- The theory's matchings that no pair blocks are the super-stable matchings of the crate matching: 255 is on nobody's list.
+-- The theory's matchings that no pair blocks are the super-stable matchings of the crate blocking: 255 is on nobody's list.
 use mathlib.Core.Path.{_≡_}
 use mathlib.Core.Bool.{true}
 use mathlib.Core.Logic.{_⊎_, ⊎-map}
@@ -8,10 +8,11 @@ use native.Mathlib.Omega.{arith}
 use lib.ListN.{length}
 use Rattle.sheet.specs.Square.{at, SquarePromise}
 use Rattle.base.proofs.Cases.{case}
-use Rattle.matching.specs.Matchings.{partner, isSuperStable}
-use Rattle.matching.specs.Plain.{SuperStable}
-use Rattle.matching.specs.Plain as Plain
-use Rattle.matching.proofs.SuperStableTest.{isSuperStable-means}
+use Rattle.matching.specs.Matchings.{partner}
+use Rattle.blocking.specs.Blocking.{isSuperStable}
+use Rattle.blocking.specs.Plain.{SuperStable}
+use Rattle.blocking.specs.Plain as Plain
+use Rattle.blocking.proofs.SuperStableTest.{isSuperStable-means}
 use Rattle.roommates.specs.Lists.{Square}
 use Rattle.roommates.proofs.Basics.{Stable, Prefers}
 

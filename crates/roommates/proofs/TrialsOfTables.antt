@@ -58,7 +58,7 @@ module _ {n : ℕ} {P : Bands} {one t : Square} (s : Sound n t) (s₁ : Sound n 
   unfolding trial
   trial-keeps-table v h ok =
       trial-table tab v h (start-trim v h) (one-end (start-sound s v) (trial-one s v))
-      λ p has. on-list n (trial n t v) p (none-emptied-has n n one (trial n t v) ok p (s₁ .inside p _ (on-list n one p has .1) .0) has)
+      λ p has. on-list n (trial n t v) p (none-emptied-has n one (trial n t v) ok p (s₁ .inside p _ (on-list n one p has .1) .0) has)
 
   -- a super-stable matching that the trim spares survives the trial, so that the trial passes
   pub trial-passes : (v : ℕ) → HasList n one v → {M : ℕ → ℕ} → ((a b : ℕ) → 0 < P a b → 0 < P b a) → Stable P M
@@ -68,4 +68,4 @@ module _ {n : ℕ} {P : Bands} {one t : Square} (s : Sound n t) (s₁ : Sound n 
       let below : Below (at (trialStart n t v)) P = below-trans (trim-below (start-trim v h)) (tab .below) in
       let end : OneEnded n (trialStart n t v) (trialWork n t v) = trial-one s v in
       let still : On P (at (trial n t v)) M = run-survives (start-sound s v) (end .run) bothP stable below on in
-      has-none-emptied n n one (trial n t v) λ a l has. has-list (one-sound (start-sound s v) end) a (M a) (still a (all a has))
+      has-none-emptied n one (trial n t v) λ a l has. has-list (one-sound (start-sound s v) end) a (M a) (still a (all a has))

@@ -54,8 +54,8 @@ after-one n t s cs rest =
 -- How settle's working ends: refused in phase one; none, in phase one; or as phase two does.
 pub data SettleEnd (n : ℕ) (t : Square) (r : End) : Type 0 where
   refused-one : OneRefused n t r → SettleEnd n t r
-  emptied-one : OneEnded n t (r .work-is) → someEmptied n n (r .work-is) ≡ true → r .verdict ≡ none-one → LeftOver (r .refusal) → SettleEnd n t r
-  on-to-two : (w : Work) → OneEnded n t w → someEmptied n n w ≡ false → TwoStopped n (w .lists) w (fuel n) r → TwoEnd n (w .lists) r → SettleEnd n t r
+  emptied-one : OneEnded n t (r .work-is) → someEmptied n (r .work-is) ≡ true → r .verdict ≡ none-one → LeftOver (r .refusal) → SettleEnd n t r
+  on-to-two : (w : Work) → OneEnded n t w → someEmptied n w ≡ false → TwoStopped n (w .lists) w (fuel n) r → TwoEnd n (w .lists) r → SettleEnd n t r
 
 pub settles-ends : (n : ℕ) (t : Square) → Sound n t → (cs : List ℕ) → SettleEnd n t (settles n t cs)
 unfolding settles
@@ -63,12 +63,12 @@ settles-ends n t s cs =
     let r : Ran = phaseOne n (fresh t) cs in
     let w : Work = r .work-is in
     let two : End = phaseTwoFrom (fuel n) n (w .lists) w cs (r .used) in
-    let rest : End = cond (someEmptied n n w) (ended (leftOver cs (r .used)) none-one w) two in
+    let rest : End = cond (someEmptied n w) (ended (leftOver cs (r .used)) none-one w) two in
     case (after-one n t s cs rest)
     (λ h.
     let ws : Sound n (w .lists) = run-steady (h .0 .run) (fresh-steady s) .sound in
     rw (h .1)
-    (by-test (SettleEnd n t) (someEmptied n n w) _ two
+    (by-test (SettleEnd n t) (someEmptied n w) _ two
     (λ e. emptied-one (h .0) e refl (left-over cs (r .used)))
     (λ e. on-to-two w (h .0) e (phase-two-stops (fuel n) n (w .lists) w ws cs (r .used)) (phase-two-ends n (w .lists) w ws cs (r .used)))))
     (λ h. refused-one h)
@@ -76,14 +76,14 @@ settles-ends n t s cs =
 -- How shorten's ends: refused, or with the verdict that says whether some joint received and has an empty list.
 pub data ShortenEnd (n : ℕ) (t : Square) (r : End) : Type 0 where
   refused-short : OneRefused n t r → ShortenEnd n t r
-  shortened : OneEnded n t (r .work-is) → r .verdict ≡ cond (someEmptied n n (r .work-is)) none-one paired → LeftOver (r .refusal) → ShortenEnd n t r
+  shortened : OneEnded n t (r .work-is) → r .verdict ≡ cond (someEmptied n (r .work-is)) none-one paired → LeftOver (r .refusal) → ShortenEnd n t r
 
 pub shortens-ends : (n : ℕ) (t : Square) → Sound n t → (cs : List ℕ) → ShortenEnd n t (shortens n t cs)
 unfolding shortens
 shortens-ends n t s cs =
     let r : Ran = phaseOne n (fresh t) cs in
     let w : Work = r .work-is in
-    let rest : End = ended (leftOver cs (r .used)) (cond (someEmptied n n w) none-one paired) w in
+    let rest : End = ended (leftOver cs (r .used)) (cond (someEmptied n w) none-one paired) w in
     case (after-one n t s cs rest)
     (λ h. rw (h .1) (shortened (h .0) refl (left-over cs (r .used))))
     (λ h. refused-short h)
@@ -98,16 +98,16 @@ shortens-proposals n t s cs = few-proposals s (shorten-run n t _ (shortens-ends 
 
 -- shorten leaves no more entries than there were
 pub shortens-entries : (n : ℕ) (t : Square) → Sound n t → (cs : List ℕ)
-    → entryCount n n (shortens n t cs .work-is .lists) ≤ entryCount n n t
+    → entryCount n (shortens n t cs .work-is .lists) ≤ entryCount n t
 shortens-entries n t s cs =
     let k = run-shrunk (shorten-run n t _ (shortens-ends n t s cs)) (fresh-steady s) in
-    entries-kept n t _ (k .below)
+    entries-kept n t (shortens n t cs .work-is .lists) (k .below)
 
 pub shortens-cuts : (n : ℕ) (t : Square) → Sound n t → (cs : List ℕ) → shortens n t cs .work-is .cuts ≡ 0
 shortens-cuts n t s cs = run-cuts (shorten-run n t _ (shortens-ends n t s cs))
 
 abbrev Few : ℕ → Square → End → Type 0
-Few n t r = (r .work-is .proposals ≤ n * n) × (2 * r .work-is .cuts ≤ entryCount n n t)
+Few n t r = (r .work-is .proposals ≤ n * n) × (2 * r .work-is .cuts ≤ entryCount n t)
 
 settle-few : (n : ℕ) (t : Square) → Sound n t → (r : End) → SettleEnd n t r → Few n t r
 settle-few n t s r (refused-one h) = let c : r .work-is .cuts ≡ 0 = run-cuts (h .run) in (few-proposals s (h .run), omega arith)
@@ -116,11 +116,11 @@ settle-few n t s r (on-to-two w h e m d) =
     let c : w .cuts ≡ 0 = run-cuts (h .run) in
     let p : w .proposals ≤ n * n = few-proposals s (h .run) in
     let k : Shrunk t (w .lists) = run-shrunk (h .run) (fresh-steady s) in
-    let fewer : entryCount n n (w .lists) ≤ entryCount n n t = entries-kept n t (w .lists) (k .below) in
+    let fewer : entryCount n (w .lists) ≤ entryCount n t = entries-kept n t (w .lists) (k .below) in
     (omega (arith, m .same-proposals), omega (arith, m .few-cuts))
 
 pub settles-proposals : (n : ℕ) (t : Square) → Sound n t → (cs : List ℕ) → settles n t cs .work-is .proposals ≤ n * n
 settles-proposals n t s cs = settle-few n t s _ (settles-ends n t s cs) .0
 
-pub settles-cuts : (n : ℕ) (t : Square) → Sound n t → (cs : List ℕ) → 2 * settles n t cs .work-is .cuts ≤ entryCount n n t
+pub settles-cuts : (n : ℕ) (t : Square) → Sound n t → (cs : List ℕ) → 2 * settles n t cs .work-is .cuts ≤ entryCount n t
 settles-cuts n t s cs = settle-few n t s _ (settles-ends n t s cs) .1

@@ -8,12 +8,13 @@ use lib.Dec.{eqb}
 use Rattle.sheet.specs.Format.{joints, rankCount}
 use Rattle.sheet.specs.Refusals.{sheetFault}
 use Rattle.sheet.specs.Square.{squareOf}
-use Rattle.matching.specs.Matchings.{partner, isSuperStable}
+use Rattle.matching.specs.Matchings.{partner, pairCount}
+use Rattle.blocking.specs.Blocking.{isSuperStable}
 use Rattle.roommates.specs.Lists.{Square}
 use Rattle.roommates.specs.PhaseOne.{Ran, fresh, phaseOne}
 use Rattle.roommates.specs.PhaseTwo.{trialStart, Verdict, going, none-one, none-two, paired, End}
 use Rattle.roommates.specs.Runs.{Cuts}
-use Rattle.roommates.specs.Working.{settles, shortens, pairingOf, pairCount, listedJoints, entryCount, listBytes}
+use Rattle.roommates.specs.Working.{settles, shortens, pairingOf, listedJoints, entryCount, listBytes}
 
 -- What settle answers: the verdict, with its phase, and the count of pairs, 0 where there is no pairing.
 pub record Answer : Type 0 where
@@ -58,10 +59,10 @@ pub record Settled (n : ℕ) (t : Square) : Type 0 where
   pub same-joints : (cs m : List ℕ) (a : ℕ) → settles n t cs .refusal ≡ 0 → settles n t cs .verdict ≡ paired → isSuperStable n t m ≡ true → a < n
       → eqb (partner m a) 255 ≡ eqb (partner (pairingOf n (settles n t cs .work-is .lists)) a) 255
   pub count-is : (cs ds : List ℕ) → settles n t cs .refusal ≡ 0 → settles n t cs .verdict ≡ paired → afterPhaseOne n t ds .done ≡ true
-      → 2 * pairCount (pairingOf n (settles n t cs .work-is .lists)) ≡ listedJoints n n (afterPhaseOne n t ds .work-is .lists)
+      → 2 * pairCount (pairingOf n (settles n t cs .work-is .lists)) ≡ listedJoints n (afterPhaseOne n t ds .work-is .lists)
   -- proposals and cuts, after refused choices too
   pub few-proposals : (cs : List ℕ) → (settles n t cs .work-is .proposals ≤ n * n) × (shortens n t cs .work-is .proposals ≤ n * n)
-  pub few-cuts : (cs : List ℕ) → (2 * settles n t cs .work-is .cuts ≤ entryCount n n t) × (shortens n t cs .work-is .cuts ≡ 0)
+  pub few-cuts : (cs : List ℕ) → (2 * settles n t cs .work-is .cuts ≤ entryCount n t) × (shortens n t cs .work-is .cuts ≡ 0)
   -- no fuel runs out: phase one ends or refuses a choice, each trial ends, and a working goes on only where a choice was refused
   pub phase-one-ends : (cs : List ℕ) → (afterPhaseOne n t cs .done ≡ true) ⊎ (afterPhaseOne n t cs .refusal ≡ 11)
   pub trials-end : (cs : List ℕ) (u : Square) → Cuts n (afterPhaseOne n t cs .work-is .lists) (afterPhaseOne n t cs .work-is .lists) u
@@ -76,4 +77,4 @@ abbrev pub Demands : Type 0
 Demands = (s : List ℕ) → sheetFault s ≡ 0 → Settled (joints s) (squareOf s)
 
 abbrev pub AllListed : Type 0
-AllListed = (s : List ℕ) → sheetFault s ≡ 0 → entryCount (joints s) (joints s) (squareOf s) ≡ rankCount s
+AllListed = (s : List ℕ) → sheetFault s ≡ 0 → entryCount (joints s) (squareOf s) ≡ rankCount s

@@ -1,10 +1,10 @@
 -- Preference lists: a square of bands, in which a struck pair has 0 at both places.
 use mathlib.Core.Bool.{Bool, _||_, cond}
 use mathlib.Core.List.{List, []}
-use Prim.Native.Nat.{ℕ, zero, suc, _+_, max}
+use Prim.Native.Nat.{ℕ, zero, suc, max}
 use lib.Dec.{eqb, ltb}
 use lib.ListN.{getD, set}
-use Rattle.base.specs.Below.{lowest}
+use Rattle.base.specs.Below.{countBelow, lowest}
 use Rattle.sheet.specs.Square.{at}
 
 abbrev pub Square : Type 0
@@ -21,10 +21,16 @@ clear t a b = set t a (set (row t a) b 0)
 abbrev pub struck : Square → ℕ → ℕ → Square
 struck t a b = clear (clear t a b) b a
 
--- of one list, over the joints below n: its length, its best and its worst band (0 for an empty list)
-unfoldable pub listLength : ℕ → List ℕ → ℕ
-listLength zero l = 0
-listLength (suc i) l = listLength i l + cond (eqb (getD l i 0) 0) 0 1
+-- is b on a list?
+abbrev pub isListed : List ℕ → ℕ → Bool
+isListed l b = ltb 0 (getD l b 0)
+
+-- of one list, over the joints below n: its length, how many stand in band k, its best and its worst band (0 for an empty list)
+abbrev pub listLength : ℕ → List ℕ → ℕ
+listLength n l = countBelow n (λ b. isListed l b)
+
+abbrev pub bandSize : ℕ → ℕ → List ℕ → ℕ
+bandSize n k l = countBelow n (λ b. eqb (getD l b 0) k)
 
 abbrev pub betterBand : ℕ → ℕ → ℕ
 betterBand k b = cond (eqb b 0) k (cond (eqb k 0 || ltb b k) b k)
@@ -36,11 +42,6 @@ bestBand (suc i) l = betterBand (bestBand i l) (getD l i 0)
 unfoldable pub worstBand : ℕ → List ℕ → ℕ
 worstBand zero l = 0
 worstBand (suc i) l = max (worstBand i l) (getD l i 0)
-
--- how many of a list stand in band k
-unfoldable pub bandSize : ℕ → ℕ → List ℕ → ℕ
-bandSize zero k l = 0
-bandSize (suc i) k l = bandSize i k l + cond (eqb (getD l i 0) k) 1 0
 
 -- first on a list: the lowest joint of its best band
 unfoldable pub firstOn : ℕ → List ℕ → ℕ

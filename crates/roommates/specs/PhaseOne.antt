@@ -1,12 +1,12 @@
 -- Phase one: proposals.
-use mathlib.Core.Bool.{Bool, true, false, _&&_, _||_, not, cond}
+use mathlib.Core.Bool.{Bool, true, false, _&&_, not, cond}
 use mathlib.Core.List.{List}
 use Prim.Native.Nat.{ℕ, zero, suc, _+_, _*_}
 use lib.Dec.{eqb, ltb, leb}
 use lib.ListN.{getD, set, replicate}
 use Rattle.sheet.specs.Square.{at}
 use Rattle.roommates.specs.Lists.{Square, row, listLength, bestBand, bandSize, strikeWorse, strikeBand}
-use Rattle.base.specs.Below.{lowest}
+use Rattle.base.specs.Below.{anyBelow, countBelow, lowest}
 
 -- A working: the lists, for each joint the band that it last proposed to (0 before its first step),
 -- whether it ever received a proposal (1 or 0), the proposals made and the cuts.
@@ -31,9 +31,8 @@ abbrev pub stands : ℕ → ℕ → Bool
 stands k b = leb 1 k && eqb b k
 
 -- does some proposal of a joint with this list stand?
-unfoldable pub anyStands : ℕ → ℕ → List ℕ → Bool
-anyStands zero k l = false
-anyStands (suc i) k l = anyStands i k l || stands k (getD l i 0)
+abbrev pub anyStands : ℕ → ℕ → List ℕ → Bool
+anyStands n k l = anyBelow n (λ b. stands k (getD l b 0))
 
 -- a joint waits if its list is not empty and none of its proposals stands
 unfoldable pub listWaits : ℕ → ℕ → List ℕ → Bool
@@ -43,9 +42,8 @@ abbrev pub waits : ℕ → Work → ℕ → Bool
 waits n w p = listWaits n (getD (w .reach) p 0) (row (w .lists) p)
 
 -- how many proposals stand at q
-unfoldable pub standingAt : ℕ → Square → List ℕ → ℕ → ℕ
-standingAt zero t reach q = 0
-standingAt (suc i) t reach q = standingAt i t reach q + cond (stands (getD reach i 0) (at t i q)) 1 0
+abbrev pub standingAt : ℕ → Square → List ℕ → ℕ → ℕ
+standingAt n t reach q = countBelow n (λ p. stands (getD reach p 0) (at t p q))
 
 -- One proposal of p at q, counted as standing in `reach`. q strikes all pairs with joints it ranks in a worse band than p.
 -- If two or more proposals then stand at q, q strikes every pair in p's band, p's own included.
@@ -104,7 +102,10 @@ fuel n = suc (n * n)
 abbrev pub phaseOne : ℕ → Work → List ℕ → Ran
 phaseOne n w cs = phaseOneFrom (fuel n) n w cs 0
 
--- none in phase one: some joint below n received and has an empty list
-unfoldable pub someEmptied : ℕ → ℕ → Work → Bool
-someEmptied zero n w = false
-someEmptied (suc i) n w = someEmptied i n w || (eqb (getD (w .received) i 0) 1 && eqb (listLength n (row (w .lists) i)) 0)
+-- a received a proposal and has an empty list
+abbrev pub isEmptied : ℕ → Work → ℕ → Bool
+isEmptied n w a = eqb (getD (w .received) a 0) 1 && eqb (listLength n (row (w .lists) a)) 0
+
+-- none in phase one: some joint below n is so
+unfoldable pub someEmptied : ℕ → Work → Bool
+someEmptied n w = anyBelow n (λ a. isEmptied n w a)

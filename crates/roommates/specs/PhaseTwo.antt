@@ -1,11 +1,11 @@
 -- Phase two: cuts.
-use mathlib.Core.Bool.{Bool, true, _&&_, _||_, cond}
+use mathlib.Core.Bool.{Bool, _&&_, _||_, cond}
 use mathlib.Core.List.{List, []}
 use Prim.Native.Nat.{ℕ, zero, suc}
 use lib.Dec.{eqb, ltb, leb}
 use lib.ListN.{length, getD}
 use Rattle.roommates.specs.Lists.{Square, row, listLength, worstBand, firstOn, strikeBand}
-use Rattle.base.specs.Below.{lowest}
+use Rattle.base.specs.Below.{allBelow, lowest}
 use Rattle.roommates.specs.PhaseOne.{Work, work, fresh, phaseOne}
 
 -- a trial: v's pairs with v's worst band are struck, then phase one runs afresh, with no choices
@@ -16,9 +16,8 @@ unfoldable pub trial : ℕ → Square → ℕ → Square
 trial n t v = phaseOne n (fresh (trialStart n t v)) [] .work-is .lists
 
 -- no list is empty but those of joints set aside: the ones empty in `one`, the lists at phase one's end
-unfoldable pub noneEmptied : ℕ → ℕ → Square → Square → Bool
-noneEmptied zero n one t = true
-noneEmptied (suc i) n one t = noneEmptied i n one t && (eqb (listLength n (row one i)) 0 || leb 1 (listLength n (row t i)))
+unfoldable pub noneEmptied : ℕ → Square → Square → Bool
+noneEmptied n one t = allBelow n (λ a. eqb (listLength n (row one a)) 0 || leb 1 (listLength n (row t a)))
 
 -- what a cut leaves: the kept trial's lists, or neither
 pub data Cut : Type 0 where
@@ -30,8 +29,8 @@ unfoldable pub cutAt : ℕ → Square → Square → ℕ → Cut
 cutAt n one t x =
     let first = trial n t (firstOn n (row t x)) in
     let second = trial n t x in
-    let other = cond (noneEmptied n n one second) (kept second) neither in
-    cond (noneEmptied n n one first) (kept first) other
+    let other = cond (noneEmptied n one second) (kept second) neither in
+    cond (noneEmptied n one first) (kept first) other
 
 -- how a working ended; `going` where a choice was refused
 pub data Verdict : Type 0 where

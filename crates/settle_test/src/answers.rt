@@ -4,8 +4,8 @@ use calls::End;
 use calls::Phase;
 use calls::Settled;
 use calls::Shortened;
-use calls::settle::settle;
-use calls::shorten::shorten;
+use calls::settling::settle;
+use calls::shortening::shorten;
 use check::same;
 ghost use Prim.Native.Nat.{_<_};
 

@@ -1,5 +1,5 @@
--- What an accepted sheet is: long enough, no longer, and its entries without a fault and returned.
-use mathlib.Core.Path.{_≡_}
+-- What a sheet without a fault is: long enough, no longer, and its entries without a fault and returned.
+use mathlib.Core.Path.{_≡_, sym, _∙_}
 use mathlib.Core.Bool.{false}
 use mathlib.Core.List.{List}
 use mathlib.Core.Logic.{_≢_}
@@ -7,66 +7,71 @@ use Prim.Native.Nat.{ℕ, _+_, _*_, _-_, _≤_, _<_}
 use native.Mathlib.Omega.{arith}
 use lib.ListN.{length, getD, length-drop}
 use borrow.Author.Tests.{ltb-false, eqb-false}
-use Rattle.sheet.specs.Format.{joints, labelsPart, countStart, rankCount, rankStart, rankingsPart}
-use Rattle.sheet.specs.Refusals.{labelBad, labelsFault, entriesFault, unreturned, rankingsFault, sheetFault}
-use Rattle.base.specs.Below.{anyBelow}
-use Rattle.sheet.proofs.FirstFaults.{first-none, when-none}
+use Rattle.base.proofs.Faults.{first-none, when-none}
+use Rattle.sections.specs.Entries.{entryWidth, entriesFault}
+use Rattle.sections.specs.Labels.{labelsFault}
+use Rattle.sections.specs.Claims.{GoodLabels}
+use Rattle.sections.proofs.LabelRule.{labels-rule}
+use Rattle.sheet.specs.Format.{joints, labelsPart, countStart, rankCount, rankStart, rankingsPart, sheetEnd}
+use Rattle.sheet.specs.Refusals.{someUnreturned, sheetFaults, sheetFault, extentsFault}
+use Rattle.sheet.proofs.FaultLists.{split-faults}
 
--- the labels' section, with its count n
-pub record LabelsAccepted (n : ℕ) (part : List ℕ) : Type 0 where
-  pub long : 16 * n ≤ length part
-  pub labels-good : anyBelow n (labelBad part) ≡ false
+-- a sheet whose sections lie where they should
+pub record Extents (s : List ℕ) : Type 0 where
+  pub not-empty : 0 < length s
+  pub few-joints : joints s ≤ 128
+  pub labels : GoodLabels (joints s) (labelsPart s)
+  pub exact : length s ≡ sheetEnd s
 
-pub labels-accepted : (n : ℕ) (part : List ℕ) → labelsFault n part ≡ 0 → LabelsAccepted n part
-unfolding labelsFault
-labels-accepted n part h =
-    let (h1, h3) = first-none _ _ h in record { long = ltb-false (length part) (16 * n) (when-none _ _ h1); labels-good = when-none _ _ h3 }
+pub extents-known : (s : List ℕ) → extentsFault s ≡ 0 → Extents s
+unfolding extentsFault sheetFaults
+extents-known s h =
+    let (h1, rest₁) = first-none _ _ h in
+    let (h2, rest₂) = first-none _ _ rest₁ in
+    let (h3, rest₃) = first-none (labelsFault (joints s) (labelsPart s)) _ rest₂ in
+    let (h4, rest₄) = first-none _ _ rest₃ in
+    let (h5, rest₅) = first-none _ _ rest₄ in
+    let (h6, rest₆) = first-none _ _ rest₅ in
+    let some : length s ≢ 0 = eqb-false (length s) 0 (when-none _ _ h1) in
+    let long : sheetEnd s ≤ length s = ltb-false (length s) (sheetEnd s) (when-none _ _ h5) in
+    let short : length s ≤ sheetEnd s = ltb-false (sheetEnd s) (length s) (when-none _ _ h6) in
+    record {
+      not-empty = omega arith;
+      few-joints = ltb-false 128 (joints s) (when-none _ _ h2);
+      labels = labels-rule (joints s) (labelsPart s) .0 h3;
+      exact = omega arith;
+    }
 
--- the rankings' section, with its count m
-pub record RankingsAccepted (n m : ℕ) (part : List ℕ) : Type 0 where
-  pub exact : length part ≡ 3 * m
-  pub faultless : entriesFault m n part ≡ 0
-  pub returned : anyBelow m (unreturned m part) ≡ false
-
-pub rankings-accepted : (n m : ℕ) (part : List ℕ) → rankingsFault n m part ≡ 0 → RankingsAccepted n m part
-unfolding rankingsFault
-rankings-accepted n m part h =
-    let (h1, rest) = first-none _ _ h in
-    let (h8, more) = first-none _ _ rest in
-    let (clean, h7) = first-none (entriesFault m n part) _ more in
-    let long : 3 * m ≤ length part = ltb-false (length part) (3 * m) (when-none _ _ h1) in
-    let short : length part ≤ 3 * m = ltb-false (3 * m) (length part) (when-none _ _ h8) in
-    record { exact = omega arith; faultless = clean; returned = when-none _ _ h7 }
+-- the part with the entries has them and no more
+pub part-exact : (s : List ℕ) → Extents s → length (rankingsPart s) ≡ entryWidth * rankCount s
+part-exact s x =
+    let e : length (rankingsPart s) ≡ length s - rankStart s = length-drop (rankStart s) s in
+    let f = x .exact in
+    omega arith
 
 -- the whole sheet
 pub record Accepted (s : List ℕ) : Type 0 where
   pub not-empty : 0 < length s
   pub few-joints : joints s ≤ 128
-  pub labels : LabelsAccepted (joints s) (labelsPart s)
-  pub start : rankStart s ≤ length s
-  pub exact : length s ≡ rankStart s + 3 * rankCount s
-  pub rankings : RankingsAccepted (joints s) (rankCount s) (rankingsPart s)
+  pub labels : GoodLabels (joints s) (labelsPart s)
+  pub exact : length s ≡ sheetEnd s
+  pub faultless : entriesFault (rankCount s) (joints s) (rankingsPart s) ≡ 0
+  pub returned : someUnreturned s ≡ false
 
 pub accepted : (s : List ℕ) → sheetFault s ≡ 0 → Accepted s
-unfolding sheetFault
+unfolding sheetFault sheetFaults extentsFault
 accepted s h =
-    let (h1, rest₁) = first-none _ _ h in
-    let (h2, rest₂) = first-none _ _ rest₁ in
-    let (hl, rest₃) = first-none (labelsFault (joints s) (labelsPart s)) _ rest₂ in
-    let (hc, hr) = first-none _ (rankingsFault (joints s) (rankCount s) (rankingsPart s)) rest₃ in
-    let some : length s ≢ 0 = eqb-false (length s) 0 (when-none _ _ h1) in
-    let few : joints s ≤ 128 = ltb-false 128 (joints s) (when-none _ _ h2) in
-    let begun : rankStart s ≤ length s = ltb-false (length s) (rankStart s) (when-none _ _ hc) in
-    let r = rankings-accepted (joints s) (rankCount s) (rankingsPart s) hr in
-    let e : length (rankingsPart s) ≡ length s - rankStart s = length-drop (rankStart s) s in
-    let e₃ : length (rankingsPart s) ≡ 3 * rankCount s = r .exact in
+    let (lie, rest) = first-none (extentsFault s) _ (sym (split-faults 6 (sheetFaults s)) ∙ h) in
+    let (clean, more) = first-none (entriesFault (rankCount s) (joints s) (rankingsPart s)) _ rest in
+    let (h7, none) = first-none _ _ more in
+    let x = extents-known s lie in
     record {
-      not-empty = omega arith;
-      few-joints = few;
-      labels = labels-accepted (joints s) (labelsPart s) hl;
-      start = begun;
-      exact = omega arith;
-      rankings = r;
+      not-empty = x .not-empty;
+      few-joints = x .few-joints;
+      labels = x .labels;
+      exact = x .exact;
+      faultless = clean;
+      returned = when-none _ _ h7;
     }
 
 -- two bytes count below 65536

@@ -2,8 +2,8 @@
 use mathlib.Core.Path.{_≡_}
 use mathlib.Core.List.{List}
 use Prim.Native.Nat.{ℕ, _≤_}
-use Rattle.sheet.specs.Format.{entryIn}
-use Rattle.sheet.specs.Refusals.{entriesFault, unreturned}
+use Rattle.sections.specs.Entries.{entryIn, entriesFault}
+use Rattle.sheet.specs.Refusals.{unreturned}
 use Rattle.base.specs.Below.{anyBelow}
 use Rattle.sheet.specs.Square.{squareUpTo, emptyAcross}
 use Rattle.base.proofs.AnyBelow.{any-cong}

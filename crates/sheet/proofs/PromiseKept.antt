@@ -7,16 +7,19 @@ use Prim.Native.Nat.{ℕ, _≤_, _<_}
 use native.Mathlib.Omega.{arith}
 use lib.ListN.{length}
 use borrow.Author.Tests.{eqb-false}
-use Rattle.sheet.specs.Format.{joints, rankCount, rankingsPart, entryIn, entriesFrom, entriesOf, bandIn}
-use Rattle.sheet.specs.Refusals.{entriesFault, unreturned, sheetFault}
+use Rattle.sheet.specs.Format.{joints, rankCount, rankingsPart}
+use Rattle.sections.specs.Entries.{entryIn, entriesFrom, bandIn, entriesFault, entryOf}
+use Rattle.sheet.specs.Refusals.{unreturned}
 use Rattle.base.specs.Below.{anyBelow}
-use Rattle.sheet.specs.Square.{at, squareUpTo, squareOf, SquarePromise}
-use Rattle.sheet.specs.Promise.{entryOf, Before, Promise}
+use Rattle.sheet.specs.Square.{at, squareUpTo, SquarePromise}
+use Rattle.sections.specs.Claims.{Before, Sound}
+use Rattle.sheet.specs.Claims.{AcceptedPromise, AcceptedSquare, SquareIsEntries}
+use Rattle.sheet.specs.Promise.{Promise}
 use Rattle.base.proofs.Cases.{case}
 use Rattle.base.proofs.AnyBelow.{any-none}
-use Rattle.sheet.proofs.EntryFaults.{Sound, entry-sound, ascend}
-use Rattle.sheet.proofs.Entries.{length-entries, entry-at}
-use Rattle.sheet.proofs.Places.{Here, Somewhere, seek}
+use Rattle.sections.proofs.EntryFaults.{entry-sound, ascend}
+use Rattle.sections.proofs.EntryList.{length-entries, entry-at}
+use Rattle.sections.proofs.Places.{Here, Somewhere, seek}
 use Rattle.sheet.proofs.SquarePlaces.{square-rows, square-row, square-nowhere, square-here}
 use Rattle.sheet.proofs.SquareIsEntries.{entries-nowhere, square-entries}
 use Rattle.sheet.proofs.Accepted.{accepted}
@@ -112,16 +115,16 @@ module _ (m n : ℕ) (part : List ℕ) (clean : entriesFault m n part ≡ 0) whe
     small-band = small-bands few;
   }
 
-pub accepted-promise : (s : List ℕ) → sheetFault s ≡ 0 → Promise (joints s) (entriesOf s)
+pub accepted-promise : AcceptedPromise
 accepted-promise s h =
     let a = accepted s h in
-    entries-promise (rankCount s) (joints s) (rankingsPart s) (a .rankings .faultless) (a .few-joints) (a .rankings .returned)
+    entries-promise (rankCount s) (joints s) (rankingsPart s) (a .faultless) (a .few-joints) (a .returned)
 
-pub accepted-square : (s : List ℕ) → sheetFault s ≡ 0 → SquarePromise (joints s) (squareOf s)
+pub accepted-square : AcceptedSquare
 accepted-square s h =
     let a = accepted s h in
-    square-promise (rankCount s) (joints s) (rankingsPart s) (a .rankings .faultless) (a .few-joints) (a .rankings .returned)
+    square-promise (rankCount s) (joints s) (rankingsPart s) (a .faultless) (a .few-joints) (a .returned)
 
-pub square-is-entries : (s : List ℕ) → sheetFault s ≡ 0 → (a b : ℕ) → at (squareOf s) a b ≡ bandIn (entriesOf s) a b
+pub square-is-entries : SquareIsEntries
 square-is-entries s h =
-    let a = accepted s h in square-entries (rankCount s) (joints s) (rankingsPart s) (a .rankings .faultless) (a .few-joints)
+    let a = accepted s h in square-entries (rankCount s) (joints s) (rankingsPart s) (a .faultless) (a .few-joints)

@@ -5,10 +5,10 @@ use mathlib.Core.Logic.{_≢_}
 use Prim.Native.Nat.{ℕ, _<_}
 use lib.ListN.{length, getD, set, length-set}
 use lib.Seq.{getD-set-same, getD-set-other, set-out}
-use Rattle.sheet.specs.declared.Entry.{Entry}
+use Rattle.sections.specs.declared.Entry.{Entry}
 use Rattle.sheet.specs.Square.{at, put}
 use Rattle.base.proofs.Cases.{case, lt-ge, eq-ne}
-use Rattle.sheet.proofs.Places.{Elsewhere}
+use Rattle.sections.proofs.Places.{Elsewhere}
 
 -- the row of the entry's joint, and the others, also past the end
 put-own-row : (t : List (List ℕ)) (e : Entry) → e .joint < length t

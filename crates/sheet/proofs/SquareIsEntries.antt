@@ -4,14 +4,13 @@ use mathlib.Core.List.{List}
 use mathlib.Core.Logic.{_≢_}
 use Prim.Native.Nat.{ℕ, _≤_, _<_}
 use native.Mathlib.Omega.{arith}
-use Rattle.sheet.specs.declared.Entry.{Entry}
-use Rattle.sheet.specs.Format.{entryIn, entriesFrom, bandIn}
-use Rattle.sheet.specs.Refusals.{entriesFault}
+use Rattle.sections.specs.declared.Entry.{Entry}
+use Rattle.sections.specs.Entries.{entryIn, entriesFrom, bandIn, entriesFault}
 use Rattle.sheet.specs.Square.{at, squareUpTo}
 use Rattle.base.proofs.Cases.{case}
-use Rattle.sheet.proofs.Entries.{length-entries, entry-at}
-use Rattle.sheet.proofs.Places.{Here, Nowhere, seek, others-elsewhere}
-use Rattle.sheet.proofs.BandIn.{band-nowhere, band-first}
+use Rattle.sections.proofs.EntryList.{length-entries, entry-at}
+use Rattle.sections.proofs.Places.{Here, Nowhere, seek, others-elsewhere}
+use Rattle.sections.proofs.BandIn.{band-nowhere, band-first}
 use Rattle.sheet.proofs.SquarePlaces.{square-nowhere, square-here}
 
 pub entries-nowhere : (m : ℕ) (part : List ℕ) (a b : ℕ) → Nowhere m (entryIn part) a b → bandIn (entriesFrom m 0 part) a b ≡ 0

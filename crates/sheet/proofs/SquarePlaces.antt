@@ -1,16 +1,17 @@
 -- The square of entries without a fault: each entry's band in its place, 0 elsewhere.
-use mathlib.Core.Path.{_≡_, _∙_}
+use mathlib.Core.Path.{_≡_, refl, _∙_}
 use mathlib.Core.List.{List, []}
-use Prim.Native.Nat.{ℕ, zero, suc, _≤_, _<_}
+use Prim.Native.Nat.{ℕ, zero, suc, _+_, _≤_, _<_}
+use native.Mathlib.Numerals.{add-one}
 use native.Mathlib.Omega.{arith}
 use lib.ListN.{length, getD, replicate, length-replicate, getD-replicate, List·getD-eq-default}
-use Rattle.sheet.specs.Format.{entryIn}
-use Rattle.sheet.specs.Refusals.{entriesFault, entryFault}
-use Rattle.sheet.specs.Square.{at, squareUpTo}
+use Rattle.sections.specs.Entries.{entryIn, entriesFault}
+use Rattle.sheet.specs.Square.{at, put, blank, squareUpTo}
 use Rattle.base.proofs.Cases.{case, lt-ge, eq-ne}
-use Rattle.sheet.proofs.FirstFaults.{first-none}
-use Rattle.sheet.proofs.EntryFaults.{entry-fits}
-use Rattle.sheet.proofs.Places.{Here, Nowhere, others-elsewhere}
+use Rattle.base.specs.Faults.{faultBelow}
+use Rattle.base.proofs.Faults.{first-none}
+use Rattle.sections.proofs.EntryFaults.{entry-fits}
+use Rattle.sections.proofs.Places.{Here, Nowhere, others-elsewhere}
 use Rattle.sheet.proofs.PutOnePlace.{put-here, put-elsewhere, put-rows, put-row}
 
 -- a square of zeros, of any size
@@ -31,6 +32,15 @@ zero-square n k a b =
 
 blank-row : (n k a : ℕ) → a < n → length (getD (replicate n (zeros k)) a []) ≡ k
 blank-row n k a l = rw (getD-replicate n a (zeros k) [] l) (length-replicate k zero)
+
+-- in a loop
+pub square-zero : (part : List ℕ) → squareUpTo 0 part ≡ blank
+unfolding squareUpTo
+square-zero part = refl
+
+pub square-next : (j : ℕ) (part : List ℕ) → squareUpTo (j + 1) part ≡ put (squareUpTo j part) (entryIn part j)
+unfolding squareUpTo
+square-next j part = rw (add-one j)
 
 pub square-rows : (m : ℕ) (part : List ℕ) → length (squareUpTo m part) ≡ 128
 unfolding squareUpTo
@@ -58,8 +68,8 @@ put-square m part fits =
     (rw (square-row m part (entryIn part m .joint) (fits .0)) (fits .1))
 
 before-faults : (m n : ℕ) (part : List ℕ) → entriesFault (suc m) n part ≡ 0 → entriesFault m n part ≡ 0
-unfolding entriesFault
-before-faults m n part h = first-none (entriesFault m n part) (entryFault n part m) h .0
+unfolding faultBelow
+before-faults m n part h = first-none (entriesFault m n part) _ h .0
 
 pub square-here : (m n : ℕ) (part : List ℕ) → entriesFault m n part ≡ 0 → n ≤ 128
     → (j : ℕ) → j < m → (a b : ℕ) → Here (entryIn part j) a b → at (squareUpTo m part) a b ≡ entryIn part j .band

@@ -1,6 +1,7 @@
--- Sheets: the format, its refusals, what an accepted sheet promises, and the square of bands.
+-- Sheets: the format, its refusals, the square of bands, what is read, and what an accepted sheet promises.
 pub mod Format
 pub mod Refusals
 pub mod Square
 pub mod Promise
 pub mod Readings
+pub mod Claims

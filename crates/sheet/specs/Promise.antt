@@ -1,18 +1,11 @@
 -- What an accepted sheet promises of its entries.
-use mathlib.Core.Path.{_≡_}
-use mathlib.Core.Logic.{_⊎_, _≢_}
+use mathlib.Core.Logic.{_≢_}
 use mathlib.Core.List.{List}
 use Prim.Native.Nat.{ℕ, _≤_, _<_}
-use lib.ListN.{length, getD}
-use Rattle.sheet.specs.declared.Entry.{Entry}
-use Rattle.sheet.specs.Format.{entry, bandIn}
-
-abbrev pub entryOf : List Entry → ℕ → Entry
-entryOf es j = getD es j (entry 0 0 0)
-
--- d comes before e: by joint, then by candidate
-abbrev pub Before : Entry → Entry → Type 0
-Before d e = (d .joint < e .joint) ⊎ ((d .joint ≡ e .joint) × (d .other < e .other))
+use lib.ListN.{length}
+use Rattle.sections.specs.declared.Entry.{Entry}
+use Rattle.sections.specs.Entries.{entryOf, bandIn}
+use Rattle.sections.specs.Claims.{Before}
 
 pub record Promise (n : ℕ) (es : List Entry) : Type 0 where
   pub few-joints : n ≤ 128

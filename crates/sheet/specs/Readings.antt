@@ -1,43 +1,26 @@
--- What reading answers, case by case.
+-- What reading a whole sheet answers, and what it leaves in the square.
+use mathlib.Core.Bool.{cond}
 use mathlib.Core.List.{List}
-use Prim.Native.Nat.{ℕ, zero, suc, _*_}
-use Rattle.sheet.specs.declared.Labels.{Labels}
-use Rattle.sheet.specs.declared.Rankings.{Rankings}
+use Prim.Native.Nat.{ℕ, zero, suc}
+use lib.Dec.{eqb}
+use Rattle.sheet.specs.declared.Parts.{Parts}
 use Rattle.sheet.specs.declared.Reading.{Reading}
-use Rattle.sheet.specs.Format.{joints, rankCount, rankStart}
-use Rattle.sheet.specs.Refusals.{labelsFault, rankingsFault, sheetFault}
-use Rattle.sheet.specs.declared.Labels.the-variants as L
-use Rattle.sheet.specs.declared.Rankings.the-variants as R
-use Rattle.sheet.specs.declared.Reading.the-variants as S
+use Rattle.sheet.specs.declared.Reading.the-variants.{Accepted, Refused}
+use Rattle.sheet.specs.Format.{joints, rankCount, labelsStart, rankStart}
+use Rattle.sheet.specs.Refusals.{sheetFault}
+use Rattle.sheet.specs.Square.{squareOf}
 
--- the labels' section: its length in bytes, or its refusal
-abbrev pub labelsOr : ℕ → ℕ → Labels
-labelsOr n zero = L.Read (16 * n)
-labelsOr n (suc k) = L.Refused (suc k)
+abbrev pub partsOf : List ℕ → Parts
+partsOf s = record { joints = joints s; entries = rankCount s; labels = labelsStart; rankings = rankStart s }
 
-abbrev pub labelsReading : ℕ → List ℕ → Labels
-labelsReading n part = labelsOr n (labelsFault n part)
-
-abbrev pub labelsNumber : Labels → ℕ
-labelsNumber (L.Read k) = 0
-labelsNumber (L.Refused k) = k
-
--- the rankings' section: its length in bytes, or its refusal
-abbrev pub rankingsOr : ℕ → ℕ → Rankings
-rankingsOr m zero = R.Read (3 * m)
-rankingsOr m (suc k) = R.Refused (suc k)
-
-abbrev pub rankingsReading : ℕ → ℕ → List ℕ → Rankings
-rankingsReading n m part = rankingsOr m (rankingsFault n m part)
-
-abbrev pub rankingsNumber : Rankings → ℕ
-rankingsNumber (R.Read k) = 0
-rankingsNumber (R.Refused k) = k
-
--- The whole sheet: accepted with n, m and where the labels and the entries begin; or its refusal.
+-- accepted with its parts where there is no fault, else refused with the number
 abbrev pub readingOr : List ℕ → ℕ → Reading
-readingOr s zero = S.Accepted (joints s) (rankCount s) 1 (rankStart s)
-readingOr s (suc k) = S.Refused (suc k)
+readingOr s zero = Accepted (partsOf s)
+readingOr s (suc k) = Refused (suc k)
 
 abbrev pub readingOf : List ℕ → Reading
 readingOf s = readingOr s (sheetFault s)
+
+-- the square after reading: the bands of an accepted sheet; a refused one leaves it as it was
+unfoldable pub squareIn : List ℕ → List (List ℕ) → List (List ℕ)
+squareIn s old = cond (eqb (sheetFault s) 0) (squareOf s) old

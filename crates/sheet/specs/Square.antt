@@ -5,8 +5,9 @@ use Prim.Native.Nat.{ℕ, zero, suc, _≤_, _<_}
 use mathlib.Core.Bool.{Bool}
 use lib.Dec.{eqb}
 use lib.ListN.{length, getD, set, replicate}
-use Rattle.sheet.specs.declared.Entry.{Entry}
-use Rattle.sheet.specs.Format.{entryIn, rankCount, rankingsPart}
+use Rattle.sections.specs.declared.Entry.{Entry}
+use Rattle.sections.specs.Entries.{entryIn}
+use Rattle.sheet.specs.Format.{rankCount, rankingsPart}
 
 -- the band of b on a's list, 0 for unlisted
 abbrev pub at : List (List ℕ) → ℕ → ℕ → ℕ

@@ -1,69 +1,46 @@
-// Reads sheets: bytes from outside, in the format of document 01.
-pub mod label_section;
-pub mod opened;
-mod ranking_section;
+// Reads whole sheets: bytes from outside, in the format of document 01.
+mod square;
 
 use base::wide;
+use sections::ENTRY_WIDTH;
+use sections::Section;
+use square::fill;
+use square::some_empty_across;
 ghost use mathlib.Core.Path.{_≡_};
-ghost use Prim.Native.Nat.{_<_};
-ghost use Rattle.sheet.specs.Format.{rankCount, rankStart};
-ghost use Rattle.sheet.specs.Refusals.{sheetFault};
-ghost use Rattle.sheet.specs.Readings.{readingOf, labelsNumber, rankingsNumber};
-ghost use Rattle.sheet.specs.Square.{squareOf};
+ghost use Prim.Native.Nat.{_+_, _*_, _<_};
+ghost use lib.ListN.{length, getD};
+ghost use Rattle.sheet.specs.Refusals.{extentsFault};
+ghost use Rattle.sheet.specs.Readings.{readingOr, readingOf, squareIn};
 
-// What reading a whole sheet answers.
+// Where the labels begin.
+const LABELS: usize = 1;
+
+// The parts of a sheet: how many joints and entries, and where the labels and the entries begin.
+pub struct Parts {
+    pub joints: usize,
+    pub entries: usize,
+    pub labels: usize,
+    pub rankings: usize,
+}
+
+// What reading a whole sheet answers: its parts, or the number of the refusal.
 pub enum Reading {
-    // n, m, and where the labels and the entries begin.
-    Accepted {
-        joints: usize,
-        entries: usize,
-        labels: usize,
-        rankings: usize,
-    },
-    // The number of the refusal.
+    Accepted(Parts),
     Refused(u8),
 }
 
-// What reading the labels' section answers: its length in bytes, or the number of the refusal.
-pub enum Labels {
-    Read(usize),
-    Refused(u8),
-}
-
-// What reading the rankings' section answers: its length in bytes, or the number of the refusal.
-pub enum Rankings {
-    Read(usize),
-    Refused(u8),
-}
-
-// An entry of the rankings: a joint, its candidate, the band.
-pub struct Entry {
-    pub joint: usize,
-    pub other: usize,
-    pub band: u8,
-}
-
-fn labels_number(found: Labels) -> u8
-    ensures { λ r. ⌜ r ≡ labelsNumber found ⌝ }
+// A count of two bytes, low byte first.
+fn count_at(sheet: &[u8], at: usize) -> usize
+    requires { ⌜ at + 1 < length (now sheet) ⌝ }
+    ensures { λ r. ⌜ r ≡ getD (now (sheet .entry)) at 0 + 256 * getD (now (sheet .entry)) (at + 1) 0 ⌝ }
+    ensures { λ r. ⌜ r < 65536 ⌝ }
 {
-    match found {
-        Labels::Read(_) => 0,
-        Labels::Refused(number) => number,
-    }
+    wide(sheet[at]) + 256 * wide(sheet[at + 1])
 }
 
-fn rankings_number(found: Rankings) -> u8
-    ensures { λ r. ⌜ r ≡ rankingsNumber found ⌝ }
-{
-    match found {
-        Rankings::Read(_) => 0,
-        Rankings::Refused(number) => number,
-    }
-}
-
-// Reads a whole sheet: every input is accepted or refused with the first number that applies.
-pub fn read(sheet: &[u8]) -> Reading
-    ensures { λ r. ⌜ r ≡ readingOf (now (sheet .entry)) ⌝ }
+// Where the sections lie, and the labels' contents.
+fn extents(sheet: &[u8]) -> Reading
+    ensures { λ r. ⌜ r ≡ readingOr (now (sheet .entry)) (extentsFault (now (sheet .entry))) ⌝ }
 {
     if sheet.len() == 0 {
         return Reading::Refused(1);
@@ -72,32 +49,53 @@ pub fn read(sheet: &[u8]) -> Reading
     if 128 < n {
         return Reading::Refused(2);
     }
-    let found = label_section::read_labels(&sheet[1..], n);
-    let Labels::Read(size) = found else {
-        return Reading::Refused(labels_number(found));
+    let found = sections::read_labels(&sheet[LABELS..], n);
+    let Section::Read(size) = found else {
+        return Reading::Refused(sections::number(found));
     };
-    let count = 1 + size;
+    let count = LABELS + size;
     let start = count + 2;
     if sheet.len() < start {
         return Reading::Refused(1);
     }
-    let m = wide(sheet[count]) + 256 * wide(sheet[count + 1]);
-    let listed = ranking_section::read_rankings(&sheet[start..], n, m);
-    let Rankings::Read(_) = listed else {
-        return Reading::Refused(rankings_number(listed));
-    };
-    Reading::Accepted {
+    let m = count_at(sheet, count);
+    let end = start + ENTRY_WIDTH * m;
+    if sheet.len() < end {
+        return Reading::Refused(1);
+    }
+    if end < sheet.len() {
+        return Reading::Refused(8);
+    }
+    Reading::Accepted(Parts {
         joints: n,
         entries: m,
-        labels: 1,
+        labels: LABELS,
         rankings: start,
-    }
+    })
 }
 
-// The square of bands of an accepted sheet, whose m entries begin at `rankings`.
-pub fn square(sheet: &[u8], rankings: usize, m: usize) -> [[u8; 128]; 128]
-    requires { ⌜ (sheetFault (now sheet) ≡ 0) × ((rankings ≡ rankStart (now sheet)) × (m ≡ rankCount (now sheet))) ⌝ }
-    ensures { λ r. ⌜ r ≡ squareOf (now (sheet .entry)) ⌝ }
+// Reads a whole sheet, and fills the square of bands if it is accepted: the way in for every crate above.
+// Every input is accepted, or refused with the first number that applies; a refused one leaves the square as it was.
+pub fn lists(sheet: &[u8], bands: &mut [[u8; 128]; 128]) -> Reading
+    ensures { λ r. ⌜ r ≡ readingOf (now (sheet .entry)) ⌝ }
+    ensures { λ _. ⌜ now (bands .exit) ≡ squareIn (now (sheet .entry)) (now (bands .entry)) ⌝ }
 {
-    ranking_section::fill(&sheet[rankings..], m)
+    let found = extents(sheet);
+    let Reading::Accepted(parts) = found else {
+        return found;
+    };
+    let m = parts.entries;
+    let start = parts.rankings;
+    let part = &sheet[start..];
+    let listed = sections::read_entries(part, parts.joints, m);
+    let Section::Read(_) = listed else {
+        return Reading::Refused(sections::number(listed));
+    };
+    let filled = fill(part, m);
+    let unreturned = some_empty_across(part, &filled, m);
+    if unreturned {
+        return Reading::Refused(7);
+    }
+    *bands = filled;
+    found
 }

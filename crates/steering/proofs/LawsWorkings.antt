@@ -13,8 +13,8 @@ use Rattle.roommates.specs.Lists.{Square}
 use Rattle.roommates.specs.PhaseOne.{Work, work, Ran, ran, fresh, fuel, phaseOne, someEmptied}
 use Rattle.roommates.specs.PhaseTwo.{Verdict, going, none-one, paired, End, ended, leftOver, phaseTwoFrom}
 use Rattle.roommates.specs.Working.{afterOne, settles, shortens}
-use Rattle.phases.proofs.LawsPhaseOne.{used-few}
-use Rattle.phases.specs.Codes.{verdictNumber, EndIs}
+use Rattle.proposals.proofs.LawsPhaseOne.{used-few}
+use Rattle.cuts.specs.Codes.{verdictNumber, EndIs}
 use Rattle.steering.specs.Workings.{workOf, restOf, WorkedAs}
 
 -- phase one's choices are few
@@ -44,7 +44,7 @@ module _ (n : ℕ) (t : Square) (cs : List ℕ) {r : ℕ} {d : Bool} {w : Work} 
   pub work-goes-on : (whole : Bool) → d ≡ true → workOf whole n t cs ≡ restOf whole n w cs u
   unfolding workOf settles shortens afterOne restOf
   work-goes-on true h = rw (← e, end-unrefused h, h)
-  work-goes-on false h = rw (← e, end-unrefused h, h) (by-verdict (someEmptied n n w))
+  work-goes-on false h = rw (← e, end-unrefused h, h) (by-verdict (someEmptied n w))
     where
       by-verdict : (b : Bool) → ended (leftOver cs u) (cond b none-one paired) w ≡ cond b (ended (leftOver cs u) none-one w) (ended (leftOver cs u) paired w)
       by-verdict true = refl
@@ -52,15 +52,15 @@ module _ (n : ℕ) (t : Square) (cs : List ℕ) {r : ℕ} {d : Bool} {w : Work} 
 
 -- the rest of a working, by its three ways
 module _ (whole : Bool) (n : ℕ) (w : Work) (cs : List ℕ) (u : ℕ) where
-  pub rest-emptied : someEmptied n n w ≡ true → restOf whole n w cs u ≡ ended (leftOver cs u) none-one w
+  pub rest-emptied : someEmptied n w ≡ true → restOf whole n w cs u ≡ ended (leftOver cs u) none-one w
   unfolding restOf
   rest-emptied h = rw h
 
-  pub rest-settled : someEmptied n n w ≡ false → whole ≡ true → restOf whole n w cs u ≡ phaseTwoFrom (fuel n) n (w .lists) w cs u
+  pub rest-settled : someEmptied n w ≡ false → whole ≡ true → restOf whole n w cs u ≡ phaseTwoFrom (fuel n) n (w .lists) w cs u
   unfolding restOf
   rest-settled h b = rw (h, b)
 
-  pub rest-shortened : someEmptied n n w ≡ false → whole ≡ false → restOf whole n w cs u ≡ ended (leftOver cs u) paired w
+  pub rest-shortened : someEmptied n w ≡ false → whole ≡ false → restOf whole n w cs u ≡ ended (leftOver cs u) paired w
   unfolding restOf
   rest-shortened h b = rw (h, b)
 

@@ -7,7 +7,7 @@ use Rattle.roommates.specs.Lists.{Square}
 use Rattle.roommates.specs.PhaseOne.{Work, work, fuel, someEmptied}
 use Rattle.roommates.specs.PhaseTwo.{End, ended, none-one, paired, leftOver, phaseTwoFrom}
 use Rattle.roommates.specs.Working.{settles, shortens}
-use Rattle.phases.specs.Codes.{verdictNumber, EndIs}
+use Rattle.cuts.specs.Codes.{verdictNumber, EndIs}
 
 -- the working of n joints' lists: settle's if whole, else shorten's
 unfoldable pub workOf : Bool → ℕ → Square → List ℕ → End
@@ -19,7 +19,7 @@ unfoldable pub restOf : Bool → ℕ → Work → List ℕ → ℕ → End
 restOf whole n w cs u =
     let two = phaseTwoFrom (fuel n) n (w .lists) w cs u in
     let rest = cond whole two (ended (leftOver cs u) paired w) in
-    cond (someEmptied n n w) (ended (leftOver cs u) none-one w) rest
+    cond (someEmptied n w) (ended (leftOver cs u) none-one w) rest
 
 -- .. from the lists t, with who has received, and no cut made: it ends with the lists t′ and k cuts. What else phase one left stays.
 abbrev pub RestIs : Bool → ℕ → Square → List ℕ → List ℕ → ℕ → Square → ℕ → ℕ → ℕ → Type 0

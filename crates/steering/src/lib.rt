@@ -1,8 +1,8 @@
 // Whole workings: phase one, and for settle phase two behind it.
-use phases::cuts::left_over;
-use phases::cuts::phase_two;
-use phases::proposals::phase_one;
-use phases::proposals::some_emptied;
+use choices::left_over;
+use cuts::phase_two;
+use proposals::phase_one;
+use proposals::some_emptied;
 ghost use mathlib.Core.Path.{_≡_};
 ghost use Prim.Native.Nat.{_≤_};
 ghost use Rattle.steering.specs.Workings.{workOf, WorkedAs, RestIs};

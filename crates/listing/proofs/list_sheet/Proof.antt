@@ -1,109 +1,56 @@
-use mathlib.Core.Path.{_≡_, sym, ap, _∙_}
-use mathlib.Core.List.{List}
-use Prim.Native.Nat.{ℕ}
+-- A refused sheet's text, or that of its joints and lists.
+use native.Mathlib.Omega.{arith}
+use denote.Ref.{now}
 use borrow.Author.Needs.{needs}
-use Rattle.calls.specs.declared.End.{End}
-use Rattle.calls.specs.declared.Settled.the-variants as S
-use Rattle.listing.specs.Sheets.{answer}
-use Rattle.listing.proofs.SheetTexts.{text-refused, text-none, PairedSheet, paired-sheet}
+use Rattle.sheet.proofs.ReadAs.{lists-as, lists-refused}
+use Rattle.listing.proofs.SheetTexts.{text-fault, listed-sheet, sheet-wrote}
 use Rattle.listing.proofs.list_sheet.Statement.{statement}
 use Rattle.listing.proofs.list_sheet.Tie as tie
 
--- where settle has answered, and its answer where the working ended
-abbrev settled : tie.After-settled2 → tie.After-settle
-settled d = d .before .before .before
+-- where the call began
+abbrev begun : tie.After-lists → tie.Start
+begun l = l .before .before .before
 
-abbrev lent : tie.After-settled2 → List ℕ
-lent d = settled d .before .before .before .before .args .sheet .now
+lists-requires : tie.Need-lists-requires
+lists-requires c κs = search needs
 
-answered : (d : tie.After-settled2) {e : End} → d .settled2 .given .0 .0 ≡ e → answer (lent d) ≡ S.Ended e
-answered d h = sym (settled d .settle .ensures .0) ∙ d .settled2 .given .1 ∙ ap S.Ended h
-
--- the sheet and the bytes of a pairing
-abbrev told : tie.After-enum-told → tie.After-settled2
-told c = c .before .before .before
-
-paired : (c : tie.After-enum-told) → PairedSheet (lent (told c)) (settled (told c) .settle .last .1 .1 .0)
-paired c = paired-sheet _ (answered (told c) (c .enum-told .given .1)) (settled (told c) .settle .ensures .1)
-
-slice-aggregate-settle : tie.Need-slice-aggregate-settle
-slice-aggregate-settle c = search needs
-
-slice-aggregate-settle-2 : tie.Need-slice-aggregate-settle-2
-slice-aggregate-settle-2 c = search needs
-
-settle-requires : tie.Need-settle-requires
-settle-requires c κs = search needs
-
-enum-known-settled : tie.Need-enum-known-settled
-enum-known-settled c = search needs
+enum-known-found : tie.Need-enum-known-found
+enum-known-found c = search needs
 
 write-refused-requires : tie.Need-write-refused-requires
 write-refused-requires c κs = search needs
 
-enum-known-settled-2 : tie.Need-enum-known-settled-2
-enum-known-settled-2 c = search needs
+enum-known-found-2 : tie.Need-enum-known-found-2
+enum-known-found-2 c = search needs
 
-enum-known-end : tie.Need-enum-known-end
-enum-known-end c = search needs
-
-phase-number-requires : tie.Need-phase-number-requires
-phase-number-requires c κs = search needs
-
-write-none-requires : tie.Need-write-none-requires
-write-none-requires c κs = search needs
-
-enum-told : tie.Need-enum-told
-enum-told c = search needs
-
-shared-slice-read-wide : tie.Need-shared-slice-read-wide
-shared-slice-read-wide c = paired (c .before) .sound .not-empty
-
-wide-requires : tie.Need-wide-requires
-wide-requires c κs = search needs
-
-slice-aggregate-write-pairing : tie.Need-slice-aggregate-write-pairing
-slice-aggregate-write-pairing c = search needs
-
-write-pairing-requires : tie.Need-write-pairing-requires
-write-pairing-requires c κs =
-    let p = paired (c .before .before .before .before) in
-    rw (c .before .before .wide .ensures .0) ((p .sound .few-joints, (p .labels-long, p .partners-long)), p .within)
+list-lists-requires : tie.Need-list-lists-requires
+list-lists-requires c κs =
+    let f = c .before .before in
+    let l = f .before .before .lists in
+    (listed-sheet _ _ _ (lists-as _ (l .ensures .0) _ (l .ensures .1) (f .found2 .given .1)) .labelled, omega arith)
 
 returns : tie.Need-returns
 returns c =
-    let d = c .before .before .before in
-    rw (text-refused _ (sym (d .before .before .before .settle .ensures .0) ∙ d .settled .given .1)) (c .write-refused .ensures)
+    let f = c .before .before .before in
+    let l = f .before .before in
+    let text = text-fault _ _ (lists-refused _ (l .lists .ensures .0) (f .found .given .1)) in
+    sheet-wrote (now (begun l .args .sheet)) text (omega arith) (c .write-refused .ensures)
 
 returns-2 : tie.Need-returns-2
 returns-2 c =
-    let n = c .before .before in
-    let e = n .before .before in
-    rw (text-none _ (answered (e .before .before .before) (e .end .given .1)), ← n .phase-number .ensures) (c .write-none .ensures)
-
-returns-3 : tie.Need-returns-3
-returns-3 c =
-    let w = c .before .before .before in
-    rw (paired (w .before .before) .text, ← w .wide .ensures .0) (c .write-pairing .ensures)
+    let f = c .before .before .before in
+    let l = f .before .before in
+    let listed = listed-sheet _ _ _ (lists-as _ (l .lists .ensures .0) _ (l .lists .ensures .1) (f .found2 .given .1)) in
+    sheet-wrote (now (begun l .args .sheet)) (listed .text) (omega arith) (c .list-lists .ensures)
 
 pub list-sheet-spec : {M : Type 1} → statement M
 list-sheet-spec =
     tie.close
     (tie.spec
-    slice-aggregate-settle
-    slice-aggregate-settle-2
-    settle-requires
-    enum-known-settled
+    lists-requires
+    enum-known-found
     write-refused-requires
-    enum-known-settled-2
-    enum-known-end
-    phase-number-requires
-    write-none-requires
-    enum-told
-    shared-slice-read-wide
-    wide-requires
-    slice-aggregate-write-pairing
-    write-pairing-requires
+    enum-known-found-2
+    list-lists-requires
     returns
-    returns-2
-    returns-3)
+    returns-2)

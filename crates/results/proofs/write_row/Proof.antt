@@ -1,46 +1,32 @@
--- A joint's entries, one by one.
-use mathlib.Core.Path.{_≡_, _∙_}
-use mathlib.Core.Logic.{⊎-elim}
-use Prim.Native.Nat.{_+_, _-_, _≤_}
+-- A joint's entries, candidate by candidate.
+use mathlib.Core.Path.{_≡_}
+use Prim.Native.Nat.{_-_, _≤_}
 use native.Mathlib.Omega.{arith}
-use lib.ListN.{length}
-use Rattle.results.proofs.LawsResults.{RowWritten, row-room, row-none, row-hit, row-miss}
+use Rattle.base.proofs.Joined.{joined-within}
+use Rattle.writing.specs.Written.{Wrote}
+use Rattle.writing.proofs.Writings.{joined-none, joined-wrote, wrote-length}
+use Rattle.roommates.specs.Working.{entry, rowEntries}
 use Rattle.results.proofs.write_row.Statement.{statement}
 use Rattle.results.proofs.write_row.Tie as tie
 
 abbrev Inv-loop : tie.InvT-loop
-Inv-loop n a row out₀ from at₀ b₀ out at b = (b ≤ n) × RowWritten b a from row out₀ at out
+Inv-loop n a row at out₀ next₀ b₀ out next b = (b ≤ n) × Wrote out₀ at (rowEntries b a row) out next
 
 abbrev μ-loop : tie.MeasureT-loop
-μ-loop n a row out₀ from at₀ b₀ out at b = n - b
+μ-loop n a row at out₀ next₀ b₀ out next b = n - b
 
 loop-holds : tie.Need-loop-holds Inv-loop μ-loop
-loop-holds c = (omega arith, row-none _ _ _ _)
-
-element-copy-out-if1 : tie.Need-element-copy-out-if1 Inv-loop μ-loop
-element-copy-out-if1 c = omega arith
-
-cast-write-entry : tie.Need-cast-write-entry Inv-loop μ-loop
-cast-write-entry c = omega arith
-
-cast-write-entry-2 : tie.Need-cast-write-entry-2 Inv-loop μ-loop
-cast-write-entry-2 c = omega arith
-
-element-copy-out-write-entry : tie.Need-element-copy-out-write-entry Inv-loop μ-loop
-element-copy-out-write-entry c = omega arith
+loop-holds c = (omega arith, joined-none _ _ _)
 
 write-entry-requires : tie.Need-write-entry-requires Inv-loop μ-loop
-write-entry-requires c κs = let w = c .before .before .before .before .before .loop in
-    let at = c .before .before .before .before .before .before .before in
-    let room = row-room (w .b) (at .args .n) (at .args .row .now) (c .before .before .before .before .loop-test .taken) (c .before .before .if1 .taken) in
-    let fits : w .at + 3 ≤ length (w .out) = omega (arith, w .inv .1, at .pre .1 .1) in
-    fits
-
-add-at : tie.Need-add-at Inv-loop μ-loop
-add-at c = let w = c .before .before .before .before .before .before .before .before .loop in
-    let at = c .before .before .before .before .before .before .before .before .before .before in
-    let room = row-room (w .b) (at .args .n) (at .args .row .now) (c .before .before .before .before .before .before .before .loop-test .taken) (c .before .before .before .before .before .if1 .taken) in
-    omega (arith, w .inv .1, at .pre .1 .1, at .good)
+write-entry-requires c κs =
+    let turn = c .before .before in
+    let start = turn .before .before in
+    let part = entry (start .args .a) (start .args .row .now) in
+    let within = joined-within (start .args .n) part (turn .loop .b) (c .before .loop-test .taken) in
+    let l = wrote-length (turn .loop .inv .1) in
+    let b = turn .loop .inv .1 .behind in
+    (start .pre .1 .0, (omega arith, omega (arith, start .pre .1 .1)))
 
 add-b : tie.Need-add-b Inv-loop μ-loop
 add-b c = omega arith
@@ -49,22 +35,16 @@ loop-less : tie.Need-loop-less Inv-loop μ-loop
 loop-less c = omega arith
 
 loop-again : tie.Need-loop-again Inv-loop μ-loop
-loop-again c = let v = c .before .before .before .loop in
-    let at = c .before .before .before .before .before in
-    ⊎-elim
-    (λ w.
-    let room = row-room (v .b) (at .args .n) (at .args .row .now) (c .before .before .loop-test .taken) (w .0 .taken) in
-    (omega arith, row-hit (v .inv .1) (omega (arith, v .inv .1, at .pre .1 .1)) (w .0 .taken) (w .6 ∙ w .3 .ensures) (w .7)))
-    (λ w. (omega arith, row-miss (v .inv .1) (w .0 .left) (w .1) (w .2)))
-    (c .if1 .came)
+loop-again c =
+    let call = c .before .before in
+    let turn = call .before .before .before in
+    (omega arith, joined-wrote (turn .loop .b) _ (turn .loop .inv .1) (call .write-entry .ensures))
 
 same-length : tie.Need-same-length Inv-loop μ-loop
-same-length c = c .before .loop .inv .1 .same
+same-length c = wrote-length (c .before .loop .inv .1)
 
 returns : tie.Need-returns Inv-loop μ-loop
-returns c = let e : c .before .loop .b ≡ c .before .before .before .args .n = omega arith in
-    let all = rw e at (c .before .loop .inv .1) in
-    (all .place, all .bytes)
+returns c = let e : c .before .loop .b ≡ c .before .before .before .args .n = omega arith in rw e at (c .before .loop .inv .1)
 
 pub write-row-spec : {M : Type 1} → statement M
 write-row-spec =
@@ -73,12 +53,7 @@ write-row-spec =
     Inv-loop
     μ-loop
     loop-holds
-    element-copy-out-if1
-    cast-write-entry
-    cast-write-entry-2
-    element-copy-out-write-entry
     write-entry-requires
-    add-at
     add-b
     loop-less
     loop-again

@@ -1,43 +1,53 @@
-use mathlib.Core.Path.{sym, _∙_}
-use Rattle.sheet.proofs.ReadAs.{ReadAs, read-as, read-refused}
-use Rattle.sheet.specs.Refusals.{sheetFault}
-use Rattle.calls.proofs.LawsCalls.{counts-refused, counts-accepted, read-promise}
+-- A refused sheet's number, or what its joints and lists give.
 use borrow.Author.Needs.{needs}
+use Rattle.sheet.proofs.ReadAs.{lists-as, lists-refused}
+use Rattle.calls.proofs.LawsCalls.{counts-refused, counts-read}
 use Rattle.calls.proofs.counting.count_working.Statement.{statement}
 use Rattle.calls.proofs.counting.count_working.Tie as tie
 
-read-requires : tie.Need-read-requires
-read-requires c κs = search needs
+-- where the call began
+abbrev begun : tie.After-lists → tie.Start
+begun l = l .before .before .before .before
 
-enum-known-reading : tie.Need-enum-known-reading
-enum-known-reading c = search needs
+lists-requires : tie.Need-lists-requires
+lists-requires c κs = search needs
 
-enum-known-reading-2 : tie.Need-enum-known-reading-2
-enum-known-reading-2 c = search needs
+enum-known-found : tie.Need-enum-known-found
+enum-known-found c = search needs
 
-known : (c : tie.After-reading2) → ReadAs (c .before .before .before .before .before .args .sheet .now) (sheetFault (c .before .before .before .before .before .args .sheet .now)) (c .reading2 .given .0 .0) (c .reading2 .given .0 .1 .0) (c .reading2 .given .0 .1 .1 .1 .0)
-known c = read-as _ _ _ _ _ _ (sym (c .before .before .read .ensures) ∙ c .reading2 .given .1)
-
-square-requires : tie.Need-square-requires
-square-requires c κs = let k = known (c .before) in (k .faultless, (k .entries-start, k .m-entries))
+enum-known-found-2 : tie.Need-enum-known-found-2
+enum-known-found-2 c = search needs
 
 count-lists-requires : tie.Need-count-lists-requires
-count-lists-requires c κs = read-promise _ (c .before .before .before .before .before .before .before .args .choices .now) (known (c .before .before)) (c .square .ensures)
+count-lists-requires c κs =
+    let f = c .before in
+    let l = f .before .before .lists in
+    let known = lists-as _ (l .ensures .0) _ (l .ensures .1) (f .found2 .given .1) in
+    known .promise
 
 returns : tie.Need-returns
-returns c = counts-refused _ _ (read-refused _ _ _ (sym (c .before .before .before .read .ensures) ∙ c .before .reading .given .1)) _
+returns c =
+    let f = c .before in
+    let l = f .before .before in
+    let a = begun l .args in
+    let r = lists-refused _ (l .lists .ensures .0) (f .found .given .1) in
+    counts-refused (a .whole) (a .sheet .now) (a .choices .now) r
 
 returns-2 : tie.Need-returns-2
-returns-2 c = counts-accepted _ _ (known (c .before .before .before)) (c .before .square .ensures) _ (c .count-lists .ensures)
+returns-2 c =
+    let f = c .before .before in
+    let l = f .before .before in
+    let a = begun l .args in
+    let known = lists-as _ (l .lists .ensures .0) _ (l .lists .ensures .1) (f .found2 .given .1) in
+    counts-read (a .sheet .now) _ _ known (a .whole) (a .choices .now) (c .count-lists .ensures)
 
 pub count-working-spec : {M : Type 1} → statement M
 count-working-spec =
     tie.close
     (tie.spec
-    read-requires
-    enum-known-reading
-    enum-known-reading-2
-    square-requires
+    lists-requires
+    enum-known-found
+    enum-known-found-2
     count-lists-requires
     returns
     returns-2)

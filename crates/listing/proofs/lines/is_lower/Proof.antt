@@ -9,15 +9,11 @@ is-alone-requires c κs = search needs
 returns : tie.Need-returns
 returns c = rw (sym (c .before .is-alone .ensures) ∙ c .if1 .taken)
 
-shared-slice-read-wide : tie.Need-shared-slice-read-wide
-shared-slice-read-wide c = search needs
-
-wide-requires : tie.Need-wide-requires
-wide-requires c κs = search needs
+partner-requires : tie.Need-partner-requires
+partner-requires c κs = search needs
 
 returns-2 : tie.Need-returns-2
-returns-2 c = rw (sym (c .before .before .before .is-alone .ensures) ∙ c .before .before .if1 .left, c .wide .ensures .0)
+returns-2 c = rw (sym (c .before .before .is-alone .ensures) ∙ c .before .if1 .left, c .partner .ensures)
 
 pub is-lower-spec : {M : Type 1} → statement M
-is-lower-spec =
-    tie.close (tie.spec is-alone-requires returns shared-slice-read-wide wide-requires returns-2)
+is-lower-spec = tie.close (tie.spec is-alone-requires returns partner-requires returns-2)

@@ -1,47 +1,74 @@
 use mathlib.Core.Path.{_≡_, sym, ap, _∙_}
 use mathlib.Core.Bool.{true}
 use mathlib.Core.Logic.{⊎-elim}
-use Prim.Native.Nat.{_-_, _≤_, _<_}
+use mathlib.Core.List.{List}
+use Prim.Native.Nat.{ℕ, _-_, _≤_, _<_}
 use native.Mathlib.Omega.{arith}
 use lib.ListN.{length}
-use Rattle.listing.specs.Written.{Wrote}
-use Rattle.listing.specs.Text.{lower, linesBelow, pairPart}
-use Rattle.listing.proofs.WrittenLaws.{nothing-wrote, wrote-taken, wrote-left}
-use Rattle.listing.proofs.LineLaws.{line-wrote, line-within, lower-paired, pair-part}
+use denote.Ref.{now}
+use Rattle.base.specs.Below.{joined}
+use Rattle.base.proofs.Joined.{joined-within}
+use Rattle.sections.specs.Labels.{labelAt}
+use Rattle.matching.specs.Matchings.{partner}
+use Rattle.writing.specs.Written.{Wrote}
+use Rattle.writing.proofs.Writings.{joined-none, joined-wrote, wrote-taken, wrote-left, wrote-length}
+use Rattle.listing.specs.Text.{isLower, pairPart}
+use Rattle.listing.proofs.LineLaws.{lower-paired, pair-part}
 use Rattle.listing.proofs.lines.write_pairs.Statement.{statement}
 use Rattle.listing.proofs.lines.write_pairs.Tie as tie
 
 abbrev Inv-loop : tie.InvT-loop
-Inv-loop sheet partners at out₀ i₀ next₀ out i next = (i ≤ length partners) × Wrote out₀ at (linesBelow i (pairPart sheet partners)) out next
+Inv-loop sheet labels rankings partners at out₀ i₀ next₀ out i next =
+    (i ≤ length partners) × Wrote out₀ at (joined i (pairPart (labelAt sheet labels) partners)) out next
 
 abbrev μ-loop : tie.MeasureT-loop
-μ-loop sheet partners at out₀ i₀ next₀ out i next = length partners - i
+μ-loop sheet labels rankings partners at out₀ i₀ next₀ out i next = length partners - i
+
+-- the partner bytes and the sheet's labels at a turn of the loop
+abbrev start : tie.At-loop Inv-loop μ-loop → tie.Start Inv-loop μ-loop
+start c = c .before .before .before .before
+
+abbrev M : tie.At-loop Inv-loop μ-loop → List ℕ
+M c = now (start c .args .partners)
+
+abbrev label : tie.At-loop Inv-loop μ-loop → ℕ → List ℕ
+label c = labelAt (now (start c .args .sheet)) (start c .args .labels)
 
 loop-holds : tie.Need-loop-holds Inv-loop μ-loop
-unfolding linesBelow
-loop-holds c = (omega arith, nothing-wrote _ _)
+loop-holds c = (omega arith, joined-none _ _ _)
 
 is-lower-requires : tie.Need-is-lower-requires Inv-loop μ-loop
 is-lower-requires c κs = omega arith
 
-shared-slice-read-wide : tie.Need-shared-slice-read-wide Inv-loop μ-loop
-shared-slice-read-wide c = omega arith
+label-of-requires : tie.Need-label-of-requires Inv-loop μ-loop
+label-of-requires c κs = omega arith
 
-wide-requires : tie.Need-wide-requires Inv-loop μ-loop
-wide-requires c κs = tt
+partner-requires : tie.Need-partner-requires Inv-loop μ-loop
+partner-requires c κs = omega arith
+
+-- the lower joint of a pair
+abbrev asked : tie.After-partner Inv-loop μ-loop → tie.At-loop Inv-loop μ-loop
+asked c = c .before .before .before .before .before
+
+lower : (c : tie.After-partner Inv-loop μ-loop) → isLower (M (asked c)) (asked c .loop .i) ≡ true
+lower c = sym (c .before .before .before .is-lower .ensures) ∙ c .before .before .if1 .taken
+
+label-of-requires-2 : tie.Need-label-of-requires-2 Inv-loop μ-loop
+label-of-requires-2 c κs =
+    let turn = asked c in
+    let h : turn .loop .i < length (M turn) = omega arith in
+    let p = start turn .pre .0 .within (turn .loop .i) h (lower-paired (M turn) (turn .loop .i) (lower c)) in
+    rw (c .partner .ensures) (omega arith)
 
 write-pair-line-requires : tie.Need-write-pair-line-requires Inv-loop μ-loop
 write-pair-line-requires c κs =
-    let s = c .before .before .before .before .before .before .before .before .before .args .sheet .now in
-    let m = c .before .before .before .before .before .before .before .before .before .args .partners .now in
-    let i = c .before .before .before .before .before .before .loop .i in
-    let t : lower m i ≡ true = sym (c .before .before .before .before .is-lower .ensures) ∙ c .before .before .before .if1 .taken in
-    let h : i < length m = omega arith in
-    let w = c .before .wide .ensures .0 in
-    let p = c .before .before .before .before .before .before .before .before .before .pre .1 .0 i h (lower-paired m i t) in
-    let a = line-within (pairPart s m) (length m) i h in
-    let e = ap length (pair-part s m i t) in
-    rw w (omega arith)
+    let d = c .before .before in
+    let turn = asked d in
+    let h : turn .loop .i < length (M turn) = omega arith in
+    let w = joined-within (length (M turn)) (pairPart (label turn) (M turn)) (turn .loop .i) h in
+    let e = ap length (pair-part (label turn) (M turn) (turn .loop .i) (lower d)) in
+    let l = wrote-length (turn .loop .inv .1) in
+    rw (d .before .label-of .ensures, c .before .label-of2 .ensures, d .partner .ensures) (omega arith)
 
 add-i : tie.Need-add-i Inv-loop μ-loop
 add-i c = omega arith
@@ -50,23 +77,26 @@ loop-less : tie.Need-loop-less Inv-loop μ-loop
 loop-less c = omega arith
 
 -- what a turn writes
-turn :
-    (c : tie.Joined1 Inv-loop μ-loop)
-    → Wrote (c .before .before .before .loop .out) (c .before .before .before .loop .next)
-    (pairPart (c .before .before .before .before .before .before .args .sheet .now) (c .before .before .before .before .before .before .args .partners .now)
-    (c .before .before .before .loop .i)) (c .if1 .out) (c .if1 .next)
+abbrev turn-of : tie.Joined1 Inv-loop μ-loop → tie.At-loop Inv-loop μ-loop
+turn-of c = c .before .before .before
+
+written : (c : tie.Joined1 Inv-loop μ-loop)
+    → Wrote (turn-of c .loop .out) (turn-of c .loop .next) (pairPart (label (turn-of c)) (M (turn-of c)) (turn-of c .loop .i)) (c .if1 .out) (c .if1 .next)
 unfolding pairPart
-turn c =
-    ⊎-elim (λ w. wrote-taken _ (sym (c .before .is-lower .ensures) ∙ w .0 .taken) (rw (w .2 .ensures .0) at (w .4 .ensures)) (w .5) (w .6))
-    (λ w. wrote-left _ _ (sym (c .before .is-lower .ensures) ∙ w .0 .left) (w .1) (w .2)) (c .if1 .came)
+written c =
+    let said = sym (c .before .is-lower .ensures) in
+    ⊎-elim (λ w. wrote-taken _ (said ∙ w .0 .taken) (rw (w .1 .ensures, w .3 .ensures, w .2 .ensures) at (w .5 .ensures)) (w .8) (w .9))
+    (λ w. wrote-left _ _ (said ∙ w .0 .left) (w .1) (w .2)) (c .if1 .came)
 
 loop-again : tie.Need-loop-again Inv-loop μ-loop
-loop-again c = (omega arith, line-wrote _ _ (c .before .before .before .loop .inv .1) (turn c))
+loop-again c = (omega arith, joined-wrote _ _ (turn-of c .loop .inv .1) (written c))
+
+same-length : tie.Need-same-length Inv-loop μ-loop
+same-length c = wrote-length (c .before .loop .inv .1)
 
 returns : tie.Need-returns Inv-loop μ-loop
 returns c =
-    let m = c .before .before .before .before .args .partners .now in
-    let e : c .before .loop .i ≡ length m = omega arith in
+    let e : c .before .loop .i ≡ length (M (c .before)) = omega arith in
     rw e at (c .before .loop .inv .1)
 
 pub write-pairs-spec : {M : Type 1} → statement M
@@ -77,10 +107,12 @@ write-pairs-spec =
     μ-loop
     loop-holds
     is-lower-requires
-    shared-slice-read-wide
-    wide-requires
+    label-of-requires
+    partner-requires
+    label-of-requires-2
     write-pair-line-requires
     add-i
     loop-less
     loop-again
+    same-length
     returns)

@@ -1,10 +1,11 @@
 -- How many of a list stand in a band, counted.
-use mathlib.Core.Path.{_≡_, refl, _∙_}
+use mathlib.Core.Path.{_≡_, sym, _∙_}
 use mathlib.Core.Logic.{⊎-elim}
 use Prim.Native.Nat.{_≤_, _-_}
 use native.Mathlib.Omega.{arith}
 use Rattle.roommates.specs.Lists.{bandSize}
-use Rattle.lists.proofs.LawsLists.{size-hit, size-miss}
+use borrow.Author.Tests.{eq-eqb, ne-eqb}
+use Rattle.base.proofs.CountBelow.{count-zero, count-hit, count-miss}
 use Rattle.lists.proofs.rows.band_size.Statement.{statement}
 use Rattle.lists.proofs.rows.band_size.Tie as tie
 
@@ -15,8 +16,7 @@ abbrev μ-loop : tie.MeasureT-loop
 μ-loop n k row size₀ i₀ size i = n - i
 
 loop-holds : tie.Need-loop-holds Inv-loop μ-loop
-unfolding bandSize
-loop-holds c = (omega arith, (omega arith, refl))
+loop-holds c = (omega arith, (omega arith, sym (count-zero _)))
 
 element-copy-out-if1 : tie.Need-element-copy-out-if1 Inv-loop μ-loop
 element-copy-out-if1 c = omega arith
@@ -32,8 +32,8 @@ loop-less c = omega arith
 
 loop-again : tie.Need-loop-again Inv-loop μ-loop
 loop-again c = ⊎-elim
-    (λ w. (omega arith, (omega arith, w .1 ∙ size-hit _ _ _ (c .before .before .before .loop .inv .1 .1) (w .0 .taken))))
-    (λ w. (omega arith, (omega arith, w .1 ∙ size-miss _ _ _ (c .before .before .before .loop .inv .1 .1) (w .0 .left))))
+    (λ w. (omega arith, (omega arith, w .1 ∙ count-hit _ _ (c .before .before .before .loop .inv .1 .1) (eq-eqb _ _ (w .0 .taken)))))
+    (λ w. (omega arith, (omega arith, w .1 ∙ count-miss _ _ (c .before .before .before .loop .inv .1 .1) (ne-eqb _ _ (w .0 .left)))))
     (c .if1 .came)
 
 returns : tie.Need-returns Inv-loop μ-loop

@@ -1,12 +1,15 @@
 -- Whether a joint waits.
-use mathlib.Core.Path.{_≡_, refl, sym, _∙_}
+use mathlib.Core.Path.{_≡_, sym, _∙_}
 use mathlib.Core.Logic.{⊎-elim}
 use Prim.Native.Nat.{_≤_, _-_}
 use native.Mathlib.Omega.{arith}
 use lib.Dec.{leb}
-use Rattle.roommates.specs.Lists.{listLength}
+use Rattle.base.proofs.AnyBelow.{any-zero, any-more, any-same}
+use Rattle.base.proofs.CountBelow.{count-zero}
+use Rattle.roommates.proofs.Waiting.{facts-stands}
+use Rattle.roommates.specs.Lists.{isListed, listLength}
 use Rattle.roommates.specs.PhaseOne.{anyStands}
-use Rattle.lists.proofs.LawsWaits.{listed-hit, listed-miss, stands-hit, stands-miss, none-stands, waits-unreached, waits-reached}
+use Rattle.lists.proofs.LawsWaits.{listed-hit, listed-miss, stands-not, none-stands, waits-unreached, waits-reached}
 use Rattle.lists.proofs.rows.list_waits.Statement.{statement}
 use Rattle.lists.proofs.rows.list_waits.Tie as tie
 
@@ -17,8 +20,7 @@ abbrev μ-loop : tie.MeasureT-loop
 μ-loop n k row listed₀ reached₀ i₀ listed reached i = n - i
 
 loop-holds : tie.Need-loop-holds Inv-loop μ-loop
-unfolding listLength anyStands
-loop-holds c = (omega arith, (refl, λ h. refl))
+loop-holds c = (omega arith, (rw (count-zero (isListed (c .args .row .now))), λ h. sym (any-zero _)))
 
 element-copy-out-if1 : tie.Need-element-copy-out-if1 Inv-loop μ-loop
 element-copy-out-if1 c = omega arith
@@ -33,30 +35,39 @@ loop-less : tie.Need-loop-less Inv-loop μ-loop
 loop-less c = omega arith
 
 loop-again : tie.Need-loop-again Inv-loop μ-loop
-loop-again c = (
-  omega arith,
-  (
-    ⊎-elim (λ w. w .1 ∙ listed-hit _ _ (w .0 .taken)) (λ w. w .1 ∙ listed-miss _ _ (c .before .before .before .before .before .loop .inv .1 .0) (w .0 .left)) (c .before .before .if1 .came),
-    λ h. ⊎-elim (λ w. w .1 ∙ stands-hit _ _ _ h (w .0 .taken)) (λ w. w .1 ∙ stands-miss _ _ _ (c .before .before .before .before .before .loop .inv .1 .1 h) (w .0 .left)) (c .if2 .came),
-  ),
-)
+loop-again c =
+    let start = c .before .before .before .before .before in
+    let l = start .before .args .row .now in (
+      omega arith,
+      (
+        ⊎-elim (λ w. w .1 ∙ listed-hit _ l (w .0 .taken)) (λ w. w .1 ∙ listed-miss _ l (start .loop .inv .1 .0) (w .0 .left)) (c .before .before .if1 .came),
+        λ h. ⊎-elim
+            (λ w. w .1 ∙ any-more _ _ (facts-stands _ _ h (w .0 .taken)))
+            (λ w. w .1 ∙ any-same _ _ (start .loop .inv .1 .1 h) (stands-not _ _ (w .0 .left)))
+            (c .if2 .came),
+      ),
+    )
 
 returns : tie.Need-returns Inv-loop μ-loop
-returns c = let at = c .before .before in
+returns c =
+    let at = c .before .before in
+    let l = at .before .args .row .now in
     let e : at .loop .i ≡ at .before .args .n = omega arith in
-    waits-unreached _ _ _ (rw e at (at .loop .inv .1 .0)) (none-stands _ _ _ (c .if3 .taken))
+    waits-unreached _ _ l (rw e at (at .loop .inv .1 .0)) (none-stands _ _ l (c .if3 .taken))
 
 returns-2 : tie.Need-returns-2 Inv-loop μ-loop
-returns-2 c = let at = c .before .before .before in
+returns-2 c =
+    let at = c .before .before .before in
     let e : at .loop .i ≡ at .before .args .n = omega arith in
     let k : 1 ≤ at .before .args .k = omega arith in
-    waits-reached _ _ _ (sym (rw e at (at .loop .inv .1 .1 k)) ∙ c .if4 .taken)
+    waits-reached _ _ (at .before .args .row .now) (sym (rw e at (at .loop .inv .1 .1 k)) ∙ c .if4 .taken)
 
 returns-3 : tie.Need-returns-3 Inv-loop μ-loop
-returns-3 c = let at = c .before .before .before in
+returns-3 c =
+    let at = c .before .before .before in
     let e : at .loop .i ≡ at .before .args .n = omega arith in
     let k : 1 ≤ at .before .args .k = omega arith in
-    waits-unreached _ _ _ (rw e at (at .loop .inv .1 .0)) (sym (rw e at (at .loop .inv .1 .1 k)) ∙ c .if4 .left)
+    waits-unreached _ _ (at .before .args .row .now) (rw e at (at .loop .inv .1 .0)) (sym (rw e at (at .loop .inv .1 .1 k)) ∙ c .if4 .left)
 
 pub list-waits-spec : {M : Type 1} → statement M
 list-waits-spec =

@@ -1,10 +1,10 @@
 -- How many proposals stand at a joint, counted.
-use mathlib.Core.Path.{_≡_, refl, sym, _∙_}
+use mathlib.Core.Path.{_≡_, sym, _∙_}
 use mathlib.Core.Logic.{⊎-elim}
 use Prim.Native.Nat.{_≤_, _-_}
 use native.Mathlib.Omega.{arith}
 use Rattle.roommates.specs.PhaseOne.{standingAt}
-use Rattle.lists.proofs.LawsStrikes.{standing-hit, standing-miss}
+use Rattle.base.proofs.CountBelow.{count-zero, count-hit, count-miss}
 use Rattle.lists.proofs.strikes.standing_at.Statement.{statement}
 use Rattle.lists.proofs.strikes.standing_at.Tie as tie
 
@@ -15,8 +15,7 @@ abbrev μ-loop : tie.MeasureT-loop
 μ-loop n bands reach q count₀ i₀ count i = n - i
 
 loop-holds : tie.Need-loop-holds Inv-loop μ-loop
-unfolding standingAt
-loop-holds c = (omega arith, (omega arith, refl))
+loop-holds c = (omega arith, (omega arith, sym (count-zero _)))
 
 element-copy-out-stands-in : tie.Need-element-copy-out-stands-in Inv-loop μ-loop
 element-copy-out-stands-in c = omega arith
@@ -44,8 +43,8 @@ loop-less c = omega arith
 
 loop-again : tie.Need-loop-again Inv-loop μ-loop
 loop-again c = ⊎-elim
-    (λ w. (omega arith, (omega arith, w .1 ∙ standing-hit _ _ _ _ (c .before .before .before .before .before .loop .inv .1 .1) (sym (c .before .stands-in .ensures) ∙ w .0 .taken))))
-    (λ w. (omega arith, (omega arith, w .1 ∙ standing-miss _ _ _ _ (c .before .before .before .before .before .loop .inv .1 .1) (sym (c .before .stands-in .ensures) ∙ w .0 .left))))
+    (λ w. (omega arith, (omega arith, w .1 ∙ count-hit _ _ (c .before .before .before .before .before .loop .inv .1 .1) (sym (c .before .stands-in .ensures) ∙ w .0 .taken))))
+    (λ w. (omega arith, (omega arith, w .1 ∙ count-miss _ _ (c .before .before .before .before .before .loop .inv .1 .1) (sym (c .before .stands-in .ensures) ∙ w .0 .left))))
     (c .if1 .came)
 
 returns : tie.Need-returns Inv-loop μ-loop

@@ -1,0 +1,3 @@
+-- Labels as text.
+pub mod Lines
+pub mod Claims

@@ -1,0 +1,9 @@
+-- The parts of a number are read back by division.
+use native.Mathlib.Omega.{arith}
+use Rattle.pairing.specs.Claims.{PartsReadBack, CountsReadBack}
+
+pub parts-read-back : PartsReadBack
+parts-read-back number verdict count h g = (omega arith, omega arith, omega arith)
+
+pub counts-read-back : CountsReadBack
+counts-read-back c h g = (omega arith, omega arith, omega arith)

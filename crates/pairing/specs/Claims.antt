@@ -1,0 +1,17 @@
+-- What C reads off an answer is what was answered: the macros of include/mirror.h take a number apart into the parts that made it.
+use mathlib.Core.Path.{_≡_}
+use Prim.Native.Nat.{ℕ, _/_, _%_, _<_}
+use Rattle.calls.specs.declared.Counts.{Counts}
+use Rattle.pairing.specs.CCodes.{packed, countsCode}
+
+-- MIRROR_REFUSAL; MIRROR_VERDICT and MIRROR_HOLDS; MIRROR_COUNT and MIRROR_PAIR
+abbrev pub PartsReadBack : Type 0
+PartsReadBack = (number verdict count : ℕ) → number < 256 → verdict < 256
+    → (packed number verdict count % 256 ≡ number)
+    × (packed number verdict count / 256 % 256 ≡ verdict)
+    × (packed number verdict count / 65536 ≡ count)
+
+-- MIRROR_REFUSAL, MIRROR_PROPOSALS and MIRROR_CUTS
+abbrev pub CountsReadBack : Type 0
+CountsReadBack = (c : Counts) → c .number < 256 → c .proposals < 65536
+    → (countsCode c % 256 ≡ c .number) × (countsCode c / 65536 % 65536 ≡ c .proposals) × (countsCode c / 4294967296 ≡ c .cuts)

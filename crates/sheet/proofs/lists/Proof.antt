@@ -1,0 +1,169 @@
+-- `lists` goes by the extents, the entries, and the places across in the filled square.
+use mathlib.Core.Path.{_≡_, sym, ap, _∙_}
+use mathlib.Core.List.{List}
+use Prim.Native.Nat.{ℕ, _*_, _-_, _<_, _≤_}
+use native.Mathlib.Omega.{arith}
+use lib.ListN.{length, take, drop}
+use denote.Ref.{now}
+use Rattle.sections.specs.Entries.{entryWidth, entryIn, entriesFault}
+use Rattle.sections.specs.Readings.{entriesReading}
+use Rattle.sections.proofs.SectionLaws.{section-read, section-refused}
+use Rattle.sections.proofs.EntryFaults.{entry-fits}
+use Rattle.sheet.specs.declared.Parts.{Parts}
+use Rattle.sheet.specs.Format.{joints, rankCount, rankingsPart}
+use Rattle.sheet.specs.Refusals.{someUnreturned, extentsFault}
+use Rattle.sheet.specs.Square.{squareOf}
+use Rattle.sheet.proofs.Accepted.{Extents, extents-known, part-exact, count-small}
+use Rattle.sheet.proofs.ReadAs.{ReadWith, read-with, refused-with}
+use Rattle.sheet.proofs.EmptyAcross.{empty-unreturned}
+use Rattle.sheet.proofs.SheetLaws.{rest-is, bad-extents, bad-entries, not-returned, faultless, refused, all-read}
+use borrow.Author.Needs.{needs}
+use Rattle.sheet.proofs.lists.Statement.{statement}
+use Rattle.sheet.proofs.lists.Tie as tie
+
+-- WHERE THE EXTENTS ARE KNOWN: the sheet, its parts, and what is known of them
+abbrev sheet : tie.After-known-told → List ℕ
+sheet c = now (c .before .before .before .before .before .args .sheet)
+
+abbrev parts : tie.After-known-told → Parts
+parts c = c .before .found .given .0 .0
+
+read : (c : tie.After-known-told) → ReadWith (sheet c) (extentsFault (sheet c)) (parts c)
+read c = read-with (sheet c) (extentsFault (sheet c)) (parts c) (sym (c .before .before .before .extents .ensures) ∙ c .before .found .given .1)
+
+lies : (c : tie.After-known-told) → Extents (sheet c)
+lies c = extents-known (sheet c) (read c .faultless)
+
+-- the part handed over is that with the entries
+part-is : (c : tie.After-known-told)
+    → take (length (sheet c) - parts c .rankings) (drop (parts c .rankings) (sheet c)) ≡ rankingsPart (sheet c)
+part-is c = rest-is (parts c .rankings) (sheet c) ∙ ap (λ (k : ℕ). drop k (sheet c)) (read c .entries-start)
+
+small : (c : tie.After-known-told) → rankCount (sheet c) < 65536
+small c = count-small (sheet c) (λ i. let h = c .before .before .before .before .shared-slice-known .given i in omega arith)
+
+-- WHERE THE ENTRIES ARE READ
+entries-are : (c : tie.After-read-entries)
+    → c .read-entries .result ≡ entriesReading (rankCount (sheet (c .before .before))) (joints (sheet (c .before .before))) (rankingsPart (sheet (c .before .before)))
+entries-are c =
+    let k : tie.After-known-told = c .before .before in
+    rw (← part-is k, ← read k .m-entries, ← read k .n-joints) (c .read-entries .ensures)
+
+abbrev back : tie.After-enum-told2 → tie.After-known-told
+back c = c .before .before .before .before
+
+clean : (c : tie.After-enum-told2) → entriesFault (rankCount (sheet (back c))) (joints (sheet (back c))) (rankingsPart (sheet (back c))) ≡ 0
+clean c = section-read _ _ (entries-are (c .before .before)) (c .enum-told2 .given .1) .0
+
+-- what `fill` and `some_empty_across` ask of the part
+abbrev Fits : List ℕ → ℕ → Type 0
+Fits part m =
+    ((m < 65536) × (entryWidth * m ≤ length part)) × ((j : ℕ) → j < m → (entryIn part j .joint < 128) × (entryIn part j .other < 128))
+
+fits : (c : tie.After-enum-told2) → Fits (rankingsPart (sheet (back c))) (rankCount (sheet (back c)))
+fits c =
+    let k : tie.After-known-told = back c in
+    let e = part-exact (sheet k) (lies k) in
+    ((small k, omega arith), entry-fits _ _ _ (clean c) (lies k .few-joints))
+
+-- WHERE THE SQUARE IS FILLED
+filled-is : (c : tie.After-fill) → c .fill .result ≡ squareOf (sheet (c .before .before .before .before .before))
+filled-is c =
+    let k : tie.After-known-told = c .before .before .before .before .before in
+    rw (← part-is k, ← read k .m-entries) (c .fill .ensures)
+
+seven-is : (c : tie.After-some-empty-across) → c .some-empty-across .result ≡ someUnreturned (sheet (back (c .before .before .before)))
+seven-is c =
+    let told : tie.After-enum-told2 = c .before .before .before in
+    let k : tie.After-known-told = back told in
+    rw (← empty-unreturned _ _ _ (clean told) (lies k .few-joints), ← filled-is (c .before .before), ← part-is k, ← read k .m-entries)
+    (c .some-empty-across .ensures)
+
+extents-requires : tie.Need-extents-requires
+extents-requires c κs = search needs
+
+enum-known-found : tie.Need-enum-known-found
+enum-known-found c = search needs
+
+enum-told : tie.Need-enum-told
+enum-told c = search needs
+
+returns : tie.Need-returns
+returns c =
+    let s : List ℕ = now (c .before .before .before .before .args .sheet) in
+    let (f, h) = refused-with s (extentsFault s) _ (sym (c .before .before .extents .ensures) ∙ c .enum-told .given .1) in
+    rw (c .enum-told .given .1) (refused s _ _ (bad-extents s _ f (λ z. omega arith)) (λ z. omega arith))
+
+sub-part : tie.Need-sub-part
+sub-part c = let e = lies c .exact in let f = read c .entries-start in omega arith
+
+part-part-start : tie.Need-part-part-start
+part-part-start c = let e = lies c .exact in let f = read c .entries-start in omega arith
+
+part-part-end : tie.Need-part-part-end
+part-part-end c = search needs
+
+read-entries-requires : tie.Need-read-entries-requires
+read-entries-requires c κs =
+    let k : tie.After-known-told = c .before in
+    let e = part-exact (sheet k) (lies k) in
+    rw (part-is k, read k .m-entries) (small k, omega arith)
+
+enum-told-2 : tie.Need-enum-told-2
+enum-told-2 c = search needs
+
+enum-told-3 : tie.Need-enum-told-3
+enum-told-3 c = search needs
+
+number-requires : tie.Need-number-requires
+number-requires c κs = search needs
+
+returns-2 : tie.Need-returns-2
+returns-2 c =
+    let k : tie.After-known-told = c .before .before .before .before .before in
+    let (f, h) = section-refused _ _ (entries-are (c .before .before .before)) (c .before .enum-told3 .given .1) (c .number .ensures) in
+    refused (sheet k) _ _ (bad-entries (sheet k) (read k .faultless) _ f h) h
+
+fill-requires : tie.Need-fill-requires
+fill-requires c κs =
+    let k : tie.After-known-told = c .before .before .before .before in
+    rw (part-is k, read k .m-entries) (fits c)
+
+some-empty-across-requires : tie.Need-some-empty-across-requires
+some-empty-across-requires c κs =
+    let k : tie.After-known-told = c .before .before .before .before .before .before in
+    rw (part-is k, read k .m-entries) (fits (c .before .before))
+
+returns-3 : tie.Need-returns-3
+returns-3 c =
+    let told : tie.After-enum-told2 = c .before .before .before .before in
+    let k : tie.After-known-told = told .before .before .before .before in
+    refused (sheet k) _ 7 (not-returned (sheet k) (read k .faultless) (clean told) (sym (seven-is (c .before)) ∙ c .if1 .taken)) (λ z. omega arith)
+
+returns-4 : tie.Need-returns-4
+returns-4 c =
+    let told : tie.After-enum-told2 = c .before .before .before .before in
+    let k : tie.After-known-told = told .before .before .before .before in
+    let none = faultless (sheet k) (read k .faultless) (clean told) (sym (seven-is (c .before)) ∙ c .if1 .left) in
+    rw (filled-is (c .before .before .before), read k .parts-are) (all-read (sheet k) _ none)
+
+pub lists-spec : {M : Type 1} → statement M
+lists-spec =
+    tie.close
+    (tie.spec
+    extents-requires
+    enum-known-found
+    enum-told
+    returns
+    sub-part
+    part-part-start
+    part-part-end
+    read-entries-requires
+    enum-told-2
+    enum-told-3
+    number-requires
+    returns-2
+    fill-requires
+    some-empty-across-requires
+    returns-3
+    returns-4)

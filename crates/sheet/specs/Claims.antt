@@ -1,0 +1,51 @@
+-- What reading promises of every sheet.
+use mathlib.Core.Path.{_≡_}
+use mathlib.Core.List.{List}
+use mathlib.Core.Logic.{_↔_}
+use Prim.Native.Nat.{ℕ, _+_, _*_, _-_, _≤_, _<_}
+use lib.ListN.{length, getD}
+use Rattle.base.specs.Claims.{First}
+use Rattle.sections.specs.Entries.{entryWidth, bandIn}
+use Rattle.sheet.specs.declared.Reading.the-variants.{Accepted, Refused}
+use Rattle.sheet.specs.Format.{joints, rankCount, entriesOf}
+use Rattle.sheet.specs.Refusals.{sheetFaults, sheetFault}
+use Rattle.sheet.specs.Square.{at, squareOf, SquarePromise}
+use Rattle.sheet.specs.Promise.{Promise}
+use Rattle.sheet.specs.Readings.{partsOf, readingOf}
+
+-- a sheet is refused with k exactly if k is the first of its faults, and accepted exactly if it has none
+abbrev pub RefusedFirst : Type 0
+RefusedFirst = (s : List ℕ) (k : ℕ) → readingOf s ≡ Refused k ↔ First k (sheetFaults s)
+
+abbrev pub AcceptedNone : Type 0
+AcceptedNone = (s : List ℕ) → readingOf s ≡ Accepted (partsOf s) ↔ ((i : ℕ) → getD (sheetFaults s) i 0 ≡ 0)
+
+-- the numbers are 1 to 8
+abbrev pub SheetMost : Type 0
+SheetMost = (s : List ℕ) → sheetFault s ≤ 8
+
+-- an accepted sheet's entries ascend, are in range and mutual; so says its square, which has their bands
+abbrev pub AcceptedPromise : Type 0
+AcceptedPromise = (s : List ℕ) → sheetFault s ≡ 0 → Promise (joints s) (entriesOf s)
+
+abbrev pub AcceptedSquare : Type 0
+AcceptedSquare = (s : List ℕ) → sheetFault s ≡ 0 → SquarePromise (joints s) (squareOf s)
+
+abbrev pub SquareIsEntries : Type 0
+SquareIsEntries = (s : List ℕ) → sheetFault s ≡ 0 → (a b : ℕ) → at (squareOf s) a b ≡ bandIn (entriesOf s) a b
+
+-- the sizes that buffers are made for
+pub record Sizes (s : List ℕ) : Type 0 where
+  pub few-entries : rankCount s ≤ joints s * (joints s - 1)
+  pub most-entries : rankCount s ≤ 128 * 127
+  -- MIRROR_SHEET_BYTES: 1 + 16 × 128 + 2 + 3 × 128 × 127
+  pub sheet-bytes : length s ≤ 50819
+  -- MIRROR_LISTS_BYTES: 2 + 3 × 128 × 127
+  pub lists-bytes : 2 + entryWidth * rankCount s ≤ 48770
+
+abbrev pub AcceptedSizes : Type 0
+AcceptedSizes = (s : List ℕ) → sheetFault s ≡ 0 → Sizes s
+
+-- what is longer than the program reads is refused
+abbrev pub LongRefused : Type 0
+LongRefused = (s : List ℕ) → 65536 < length s → 1 ≤ sheetFault s

@@ -1,0 +1,3 @@
+-- Laws of writing, and the claims.
+pub mod Writings
+pub mod Decimals
