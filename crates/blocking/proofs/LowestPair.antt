@@ -12,7 +12,7 @@ use Rattle.base.specs.Below.{lowest}
 use Rattle.base.proofs.Cases.{case, lt-ge, eq-ne, unlike}
 use Rattle.base.proofs.Lowest.{lowest-passes, lowest-below, some-passes}
 use Rattle.matching.specs.Matchings.{partner, pairNumber}
-use Rattle.matching.proofs.PairNumbers.{pairNumber-rises, pairNumber-lower}
+use Rattle.matching.proofs.PairNumbers.{pair-number-rises, pair-number-lower}
 use Rattle.blocking.specs.Blocking.{blocks, blocker, blockingPair}
 use Rattle.blocking.specs.Plain.{Blocks, LowestBlocking}
 use Rattle.blocking.specs.Claims.{BlockingPairNone, BlockingPairLowest}
@@ -63,9 +63,9 @@ module _ (n : ℕ) (t : List (List ℕ)) (m : List ℕ) where
             case (eq-ne higher b)
             (λ e.
             let here : Blocks (at t) (partner m) a higher = rw e h in
-            rw (← e) (pairNumber-lower (blocker t m higher) a higher (blocker-lowest a higher here)))
+            rw (← e) (pair-number-lower (blocker t m higher) a higher (blocker-lowest a higher here)))
             (λ ne.
-            let rise : pairNumber (blocker t m higher) higher < pairNumber a b = pairNumber-rises _ _ a b low (omega arith) in
+            let rise : pairNumber (blocker t m higher) higher < pairNumber a b = pair-number-rises _ _ a b low (omega arith) in
             omega arith);
       }
 
@@ -84,8 +84,8 @@ module _ (n : ℕ) (t : List (List ℕ)) (m : List ℕ) where
 only-one : {n : ℕ} {band : ℕ → ℕ → ℕ} {partner : ℕ → ℕ} {j k : ℕ} → LowestBlocking n band partner j → LowestBlocking n band partner k → j ≤ k
 only-one v w = let l = v .lowest _ _ (w .below) (w .joint) (w .blocking) in omega (arith, w .numbered)
 
-pub blockingPair-none : BlockingPairNone
-blockingPair-none n t m = (
+pub blocking-pair-none : BlockingPairNone
+blocking-pair-none n t m = (
   λ q. case (lt-ge (higher n t m) n)
       (λ l. absurd (unlike (sym (ap isSome q) ∙ ap isSome (pair-some n t m l))))
       (unblocked n t m),
@@ -94,9 +94,9 @@ blockingPair-none n t m = (
       (pair-none n t m),
 )
 
-pub blockingPair-lowest : BlockingPairLowest
+pub blocking-pair-lowest : BlockingPairLowest
 unfolding number
-blockingPair-lowest n t m k = (
+blocking-pair-lowest n t m k = (
   λ q. case (lt-ge (higher n t m) n)
       (λ l. let e : pairNumber (blocker t m (higher n t m)) (higher n t m) ≡ k = sym (ap number (pair-some n t m l)) ∙ ap number q in rw e at (found n t m l))
       (λ l. absurd (unlike (sym (ap isSome (pair-none n t m l)) ∙ ap isSome q))),

@@ -15,8 +15,8 @@ use Rattle.blocking.specs.Plain.{Welcomes, Blocks, Prefers, SuperStable}
 use Rattle.blocking.specs.Claims.{IsSuperStableMeans}
 use Rattle.base.proofs.Cases.{case, lt-ge, eq-ne}
 use Rattle.base.proofs.Tests.{and-true}
-use Rattle.matching.proofs.MatchingTest.{isMatching-means}
-use Rattle.blocking.proofs.LowestPair.{blockingPair-none}
+use Rattle.matching.proofs.MatchingTest.{is-matching-means}
+use Rattle.blocking.proofs.LowestPair.{blocking-pair-none}
 
 none-is : (o : Option ℕ) → isNone o ≡ true → o ≡ none
 none-is none h = refl
@@ -81,15 +81,15 @@ super-stable-parts n t m = (
 )
 
 -- isSuperStable passes exactly the pairings of n bytes that are super-stable
-pub isSuperStable-means : IsSuperStableMeans
-isSuperStable-means n t m sq = (
+pub is-super-stable-means : IsSuperStableMeans
+is-super-stable-means n t m sq = (
   λ h.
       let both : (isMatching n t m ≡ true) × (blockingPair n t m ≡ none) = super-stable-parts n t m .0 h in
-      let w : (length m ≡ n) × Matching n (at t) (partner m) = isMatching-means n t m .0 (both .0) in
-      (w .0, stable n (at t) (partner m) (sq .few-joints) (w .1) (sq .not-itself) (blockingPair-none n t m .0 (both .1))),
+      let w : (length m ≡ n) × Matching n (at t) (partner m) = is-matching-means n t m .0 (both .0) in
+      (w .0, stable n (at t) (partner m) (sq .few-joints) (w .1) (sq .not-itself) (blocking-pair-none n t m .0 (both .1))),
   λ h.
-      let w : isMatching n t m ≡ true = isMatching-means n t m .1 (h .0, h .1 .matching) in
+      let w : isMatching n t m ≡ true = is-matching-means n t m .1 (h .0, h .1 .matching) in
       let q : blockingPair n t m ≡ none =
-      blockingPair-none n t m .1 (unblockable n (at t) (partner m) (sq .few-joints) (h .1)) in
+      blocking-pair-none n t m .1 (unblockable n (at t) (partner m) (sq .few-joints) (h .1)) in
       super-stable-parts n t m .1 (w, q),
 )

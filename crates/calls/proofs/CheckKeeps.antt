@@ -23,9 +23,9 @@ use Rattle.blocking.specs.Blocking.{blockingPair}
 use Rattle.matching.specs.Plain.{Matching}
 use Rattle.blocking.specs.Plain.{SuperStable, LowestBlocking}
 use Rattle.blocking.specs.Answers.{verdictOf, offerOf}
-use Rattle.matching.proofs.MatchingTest.{isMatching-means}
-use Rattle.blocking.proofs.LowestPair.{blockingPair-lowest}
-use Rattle.blocking.proofs.SuperStableTest.{isSuperStable-means, super-stable-parts}
+use Rattle.matching.proofs.MatchingTest.{is-matching-means}
+use Rattle.blocking.proofs.LowestPair.{blocking-pair-lowest}
+use Rattle.blocking.proofs.SuperStableTest.{is-super-stable-means, super-stable-parts}
 use Rattle.calls.specs.Checks.{checkFaults, checkedAs, checkOf}
 use Rattle.calls.specs.Claims.{CheckKeeps}
 use Rattle.sheet.proofs.Numbers.{sheet-most}
@@ -104,9 +104,9 @@ module _ (s m : List ℕ) where
       let r = answered-at (checkFaults s m) 1 10 (omega arith) others in (
         λ h.
             let w = r .0 (a .0 h .0) in
-            (w .1 0 (omega arith), λ x. never _ (isMatching-means n t m .1 x) (ten-is _ (w .0))),
+            (w .1 0 (omega arith), λ x. never _ (is-matching-means n t m .1 x) (ten-is _ (w .0))),
         λ h.
-            let none : isMatching n t m ≡ false = not-so (isMatching n t m) (λ q. h .1 (isMatching-means n t m .0 q)) in
+            let none : isMatching n t m ≡ false = not-so (isMatching n t m) (λ q. h .1 (is-matching-means n t m .0 q)) in
             a .1 (r .1 (rw none refl, λ l g. let e : l ≡ 0 = omega arith in rw e (h .0)), omega arith),
       )
     where
@@ -121,10 +121,10 @@ module _ (s m : List ℕ) where
         λ h.
             let (z, o) = a .0 h in
             let (f, w) = passes .0 z in
-            let v = isSuperStable-means n t m (accepted-square s f) .0 (super-stable-parts n t m .1 (w, o)) in
+            let v = is-super-stable-means n t m (accepted-square s f) .0 (super-stable-parts n t m .1 (w, o)) in
             (f, v .0, v .1),
         λ h.
-            let w = super-stable-parts n t m .0 (isSuperStable-means n t m (accepted-square s (h .0)) .1 (h .1, h .2)) in
+            let w = super-stable-parts n t m .0 (is-super-stable-means n t m (accepted-square s (h .0)) .1 (h .1, h .2)) in
             a .1 (passes .1 (h .0, w .0), w .1),
       )
 
@@ -135,8 +135,8 @@ module _ (s m : List ℕ) where
         λ h.
             let (z, o) = a .0 h in
             let (f, w) = passes .0 z in
-            (f, isMatching-means n t m .0 w, blockingPair-lowest n t m k .0 o),
-        λ h. a .1 (passes .1 (h .0, isMatching-means n t m .1 (h .1)), blockingPair-lowest n t m k .1 (h .2)),
+            (f, is-matching-means n t m .0 w, blocking-pair-lowest n t m k .0 o),
+        λ h. a .1 (passes .1 (h .0, is-matching-means n t m .1 (h .1)), blocking-pair-lowest n t m k .1 (h .2)),
       )
 
   pub check-keeps : CheckKeeps s m

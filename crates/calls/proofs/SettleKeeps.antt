@@ -19,7 +19,7 @@ use Rattle.sheet.proofs.PromiseKept.{accepted-square}
 use Rattle.blocking.specs.declared.Checked.the-variants as C
 use Rattle.blocking.specs.Blocking.{isSuperStable}
 use Rattle.matching.specs.Matchings.{pairCount}
-use Rattle.blocking.proofs.SuperStableTest.{isSuperStable-means}
+use Rattle.blocking.proofs.SuperStableTest.{is-super-stable-means}
 use Rattle.writing.specs.Written.{over}
 use Rattle.roommates.specs.PhaseTwo as W
 use Rattle.roommates.specs.Working.{settles}
@@ -45,13 +45,13 @@ use Rattle.sheet.proofs.Numbers.{sheet-most}
 -- super-stable matchings are those that check holds good
 check-super : (s m : List ℕ) → sheetFault s ≡ 0 → Super s m → checkOf s m ≡ C.Holds
 check-super s m f h =
-    let w = isSuperStable-means (joints s) (squareOf s) m (accepted-square s f) .0 h in
+    let w = is-super-stable-means (joints s) (squareOf s) m (accepted-square s f) .0 h in
     check-keeps s m .check-holds .1 (f, w .0, w .1)
 
 check-blocked : (s m : List ℕ) → isSuperStable (joints s) (squareOf s) m ≡ false → checkOf s m ≢ C.Holds
 check-blocked s m e h =
     let w = check-keeps s m .check-holds .0 h in
-    never _ (isSuperStable-means (joints s) (squareOf s) m (accepted-square s (w .0)) .1 (w .1, w .2)) e
+    never _ (is-super-stable-means (joints s) (squareOf s) m (accepted-square s (w .0)) .1 (w .1, w .2)) e
 
 -- BUFFERS, with k bytes written over their start
 pub record Over (k : ℕ) (bytes before after : List ℕ) : Type 0 where

@@ -36,9 +36,9 @@ module _ (n : ℕ) (t : List (List ℕ)) (m : List ℕ) where
       (λ r. or-right (eqb (partner m a) 255) _ (rw (lt-ltb _ _ (r .with-joint), eq-eqb _ _ (r .back), lt-ltb _ _ (r .listed))))
 
 -- isMatching passes exactly the pairings of n bytes that are matchings
-pub isMatching-means : IsMatchingMeans
+pub is-matching-means : IsMatchingMeans
 unfolding isMatching
-isMatching-means n t m = (
+is-matching-means n t m = (
   λ h.
       let both : (eqb (length m) n ≡ true) × (allBelow n (isPlaced n t m) ≡ true) = and-true _ _ h in
       (eqb-true _ _ (both .0), record { placed = λ a l. placed n t m a (all-true n _ (both .1) a l) }),
@@ -48,9 +48,9 @@ isMatching-means n t m = (
 -- what the functions that are handed a matching need of it
 module _ (n : ℕ) (t : List (List ℕ)) (m : List ℕ) (matching : isMatching n t m ≡ true) where
   pub as-many : length m ≡ n
-  as-many = isMatching-means n t m .0 matching .0
+  as-many = is-matching-means n t m .0 matching .0
 
   pub partner-joint : (a : ℕ) → a < n → (partner m a ≡ 255 → ⊥) → partner m a < n
-  partner-joint a l paired = case (isMatching-means n t m .0 matching .1 .placed a l)
+  partner-joint a l paired = case (is-matching-means n t m .0 matching .1 .placed a l)
       (λ u. absurd (paired u))
       (λ p. p .with-joint)

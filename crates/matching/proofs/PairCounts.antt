@@ -16,7 +16,7 @@ use Rattle.base.proofs.SumBelow.{sum-same, sum-even, halfSum}
 use Rattle.matching.specs.Matchings.{partner, isAlone, pairedJoints, aloneCount}
 use Rattle.matching.specs.Plain.{Paired, Matching}
 use Rattle.matching.specs.Claims.{PairedOrAlone, TwoToAPair}
-use Rattle.matching.proofs.MatchingTest.{isMatching-means}
+use Rattle.matching.proofs.MatchingTest.{is-matching-means}
 
 -- as the loop has it, joint by joint
 abbrev pub pairedBelow : ℕ → List ℕ → ℕ
@@ -117,6 +117,6 @@ module _ (n : ℕ) (t : List (List ℕ)) (m : List ℕ) (sq : SquarePromise n t)
 pub two-to-a-pair : TwoToAPair
 unfolding pairedJoints
 two-to-a-pair n t m sq h =
-    let w : (length m ≡ n) × Matching n (at t) (partner m) = isMatching-means n t m .0 h in
+    let w : (length m ≡ n) × Matching n (at t) (partner m) = is-matching-means n t m .0 h in
     let e : pairedBelow (length m) m ≡ pairedBelow n m = ap (λ (i : ℕ). pairedBelow i m) (w .0) in
     omega (arith, even n t m sq (w .1))

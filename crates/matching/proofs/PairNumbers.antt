@@ -37,21 +37,21 @@ up-to b d h =
     omega (arith, tri-rises (d - b) b, ap tri e)
 
 -- whoever the lower joints are, a higher joint further up means a higher number
-pub pairNumber-rises : PairNumberRises
+pub pair-number-rises : PairNumberRises
 unfolding tri
-pairNumber-rises a b c d h l = omega (arith, below-next a b h, up-to (suc b) d l)
+pair-number-rises a b c d h l = omega (arith, below-next a b h, up-to (suc b) d l)
 
-pub pairNumber-small : PairNumberSmall
+pub pair-number-small : PairNumberSmall
 unfolding tri
-pairNumber-small a b h l = omega (arith, below-next a b h, up-to (suc b) 128 l)
+pair-number-small a b h l = omega (arith, below-next a b h, up-to (suc b) 128 l)
 
-pub pairNumber-injective : PairNumberInjective
-pairNumber-injective a b c d h k e = case (lt-ge b d)
-    (λ l. absurd (omega (arith, pairNumber-rises a b c d h l)))
+pub pair-number-injective : PairNumberInjective
+pair-number-injective a b c d h k e = case (lt-ge b d)
+    (λ l. absurd (omega (arith, pair-number-rises a b c d h l)))
     (λ l. case (lt-ge d b)
-    (λ r. absurd (omega (arith, pairNumber-rises c d a b k r)))
+    (λ r. absurd (omega (arith, pair-number-rises c d a b k r)))
     (λ r. let s : b ≡ d = omega arith in (omega (arith, ap (λ (x : ℕ). x * (x - 1) / 2) s), s)))
 
 -- among pairs that share the higher joint the number goes up with the lower one
-pub pairNumber-lower : (a c b : ℕ) → a ≤ c → pairNumber a b ≤ pairNumber c b
-pairNumber-lower a c b h = omega arith
+pub pair-number-lower : (a c b : ℕ) → a ≤ c → pairNumber a b ≤ pairNumber c b
+pair-number-lower a c b h = omega arith

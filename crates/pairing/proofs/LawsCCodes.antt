@@ -5,7 +5,7 @@ use mathlib.Core.List.{List}
 use Prim.Native.Nat.{ℕ, _<_}
 use native.Mathlib.Omega.{arith}
 use Rattle.sheet.proofs.PromiseKept.{accepted-square}
-use Rattle.matching.proofs.PairNumbers.{pairNumber-small}
+use Rattle.matching.proofs.PairNumbers.{pair-number-small}
 use Rattle.blocking.specs.declared.Checked.the-variants as K
 use Rattle.calls.specs.declared.End.the-variants as E
 use Rattle.calls.specs.declared.Settled.the-variants as S
@@ -27,7 +27,7 @@ check-pair-small s m k e =
     let b = h .2 in
     let few = accepted-square s (h .0) .few-joints in
     let l = b .joint in
-    let q = pairNumber-small (b .lower) (b .higher) (b .below) (omega arith) in
+    let q = pair-number-small (b .lower) (b .higher) (b .below) (omega arith) in
     omega (arith, b .numbered)
 
 pub proposals-small : (whole : Bool) (s cs : List ℕ) → countsOf whole s cs .proposals < 65536

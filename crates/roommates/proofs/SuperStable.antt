@@ -12,7 +12,7 @@ use Rattle.matching.specs.Matchings.{partner}
 use Rattle.blocking.specs.Blocking.{isSuperStable}
 use Rattle.blocking.specs.Plain.{SuperStable}
 use Rattle.blocking.specs.Plain as Plain
-use Rattle.blocking.proofs.SuperStableTest.{isSuperStable-means}
+use Rattle.blocking.proofs.SuperStableTest.{is-super-stable-means}
 use Rattle.roommates.specs.Lists.{Square}
 use Rattle.roommates.proofs.Basics.{Stable, Prefers}
 
@@ -29,7 +29,7 @@ module _ {n : ℕ} {t : Square} (s : SquarePromise n t) (m : List ℕ) where
 
   pub super-stable : isSuperStable n t m ≡ true → Stable (at t) (partner m)
   super-stable h =
-      let super : SuperStable n (at t) (partner m) = isSuperStable-means n t m s .0 h .1 in
+      let super : SuperStable n (at t) (partner m) = is-super-stable-means n t m s .0 h .1 in
       record {
         back = λ p l. case (super .matching .placed p (s .inside p (partner m p) l .0)) (λ e. absurd (no-joint p l e)) (λ k. k .back);
         unblocked = λ p q l.
@@ -39,7 +39,7 @@ module _ {n : ℕ} {t : Square} (s : SquarePromise n t) (m : List ℕ) where
       }
 
   pub super-placed : isSuperStable n t m ≡ true → (a : ℕ) → a < n → (partner m a ≡ 255) ⊎ (0 < at t a (partner m a))
-  super-placed h a l = ⊎-map (λ e. e) (λ p. p .listed) (isSuperStable-means n t m s .0 h .1 .matching .placed a l)
+  super-placed h a l = ⊎-map (λ e. e) (λ p. p .listed) (is-super-stable-means n t m s .0 h .1 .matching .placed a l)
 
   plainly : (a b : ℕ) → Prefers (at t) (partner m) a b → Plain.Prefers n (at t) (partner m) a b
   plainly a b h = (s .inside a (partner m a) (h .0) .1, h .1)
@@ -47,7 +47,7 @@ module _ {n : ℕ} {t : Square} (s : SquarePromise n t) (m : List ℕ) where
   -- .. the other way, where each joint is unpaired or listed with its partner
   pub stable-super : length m ≡ n → ((a : ℕ) → a < n → (partner m a ≡ 255) ⊎ (0 < at t a (partner m a))) → Stable (at t) (partner m)
       → isSuperStable n t m ≡ true
-  stable-super long placed stable = isSuperStable-means n t m s .1 (
+  stable-super long placed stable = is-super-stable-means n t m s .1 (
     long,
     record {
       matching = record {

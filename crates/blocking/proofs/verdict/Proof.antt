@@ -7,7 +7,7 @@ use borrow.Author.Needs.{needs}
 use borrow.Author.Tests.{lt-ltb, le-ltb}
 use Rattle.base.specs.Below.{lowestFrom}
 use Rattle.base.proofs.Lowest.{lowest-starts, lowest-hit, lowest-miss, lowest-none}
-use Rattle.matching.proofs.PairNumbers.{pairNumber-small}
+use Rattle.matching.proofs.PairNumbers.{pair-number-small}
 use Rattle.blocking.proofs.LowestPair.{higher, hasBlocker, pair-some, pair-none}
 use Rattle.blocking.proofs.verdict.Statement.{statement}
 use Rattle.blocking.proofs.verdict.Tie as tie
@@ -32,7 +32,7 @@ below : (c : tie.After-pair-number Inv-loop μ-loop) → c .before .before .befo
 below c = omega arith
 
 cast-t8 : tie.Need-cast-t8 Inv-loop μ-loop
-cast-t8 c = omega (arith, c .pair-number .ensures, pairNumber-small _ _ (c .before .if1 .taken) (below c))
+cast-t8 c = omega (arith, c .pair-number .ensures, pair-number-small _ _ (c .before .if1 .taken) (below c))
 
 returns : tie.Need-returns Inv-loop μ-loop
 returns c =
