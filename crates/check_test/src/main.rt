@@ -1,11 +1,16 @@
 // Tries check: row j of document 01, some refusals, and every vector of partner bytes for random sheets of up to 6 joints,
 // beside a reference written straight from the definition.
-mod reference;
-mod vectors;
-
 use blocking::Checked;
-use libc::STDOUT_FILENO;
+use calls::checking::check;
+use reference::BLOCKED;
+use reference::STABLE;
+use reference::worth;
 use samples::Style;
+use samples::drawn_sheet;
+use samples::sheet_of;
+use std::num::wrapping_add_u32;
+use tally::add;
+use tally::compare;
 ghost use Prim.Native.Nat.{_<_, _≤_};
 
 const ROUNDS: u32 = 140;
@@ -13,166 +18,268 @@ const ROUNDS: u32 = 140;
 // How many vectors of n bytes there are, each byte one of 0 to 5 and 255.
 const VECTORS: [u32; 7] = [1, 7, 49, 343, 2401, 16807, 117649];
 
-pub struct Tally {
-    pub holds: u32,
-    pub blocked: u32,
-    pub refused: u32,
-    pub differ: u32,
+// Pairings offered to row g's sheet, each after its length: row j, the pairing of row g, a byte too many, a byte too few, no joint,
+// not symmetric, not listed.
+const OFFERED: [[u8; 6]; 7] = [
+    [4, 1, 0, 255, 255, 0],
+    [4, 3, 2, 1, 0, 0],
+    [5, 3, 2, 1, 0, 255],
+    [3, 3, 2, 1, 0, 0],
+    [4, 1, 0, 255, 4, 0],
+    [4, 1, 2, 1, 255, 0],
+    [4, 2, 255, 0, 255, 0],
+];
+
+// The bands of row g.
+const ROW_G: [u8; 64] = [
+    0,
+    1,
+    0,
+    2,
+    0,
+    0,
+    0,
+    0,
+    2,
+    0,
+    1,
+    0,
+    0,
+    0,
+    0,
+    0,
+    0,
+    2,
+    0,
+    1,
+    0,
+    0,
+    0,
+    0,
+    1,
+    0,
+    2,
+    0,
+    0,
+    0,
+    0,
+    0,
+    0,
+    0,
+    0,
+    0,
+    0,
+    0,
+    0,
+    0,
+    0,
+    0,
+    0,
+    0,
+    0,
+    0,
+    0,
+    0,
+    0,
+    0,
+    0,
+    0,
+    0,
+    0,
+    0,
+    0,
+    0,
+    0,
+    0,
+    0,
+    0,
+    0,
+    0,
+    0,
+];
+
+// Where the answers to the pairings offered stand, then how many vectors held, were refused, were blocked, and how many sheets there were.
+const ANSWERS: usize = 2;
+
+const ENDS: usize = 10;
+
+const SHEETS: usize = 13;
+
+// An answer as the reference gives it.
+fn number_of(answer: Checked) -> u32 {
+    match answer {
+        Checked::Holds => STABLE,
+        Checked::Refused(k) => k as u32,
+        Checked::Blocked(k) => wrapping_add_u32(BLOCKED, k),
+    }
 }
 
-fn long(count: u32) -> u64
+// Where an answer is counted.
+fn place_of(answer: u32) -> usize {
+    if answer == STABLE {
+        return ENDS;
+    }
+    if answer < BLOCKED { ENDS + 1 } else { ENDS + 2 }
+}
+
+fn partner(digit: u64) -> u8 {
+    if digit < 6 { digit as u8 } else { 255 }
+}
+
+// The digits of v to the base 7, lowest first, with 255 for 6; 255 past the first n.
+fn vector(v: u64, n: usize) -> [u8; 8]
+    requires { ⌜ n ≤ 8 ⌝ }
+{
+    let mut m = [255u8; 8];
+    let mut rest = v;
+    let mut i = 0;
+    while i < n {
+        m[i] = partner(rest % 7);
+        rest = rest / 7;
+        i += 1;
+    }
+    m
+}
+
+// Compares check with the reference on one vector.
+fn try_vector(
+    counts: [u32; 40],
+    round: u32,
+    bands: &[u8; 64],
+    sheet: &[u8],
+    n: usize,
+    v: u64,
+) -> [u32; 40]
+    requires { ⌜ n ≤ 8 ⌝ }
+{
+    let m = vector(v, n);
+    let answer = number_of(check(sheet, &m[0..n]));
+    let sums = add(counts, place_of(answer), 1);
+    compare(sums, 1, round, answer == worth(bands, &m))
+}
+
+fn count(x: u32) -> u64
     ensures { λ r. ⌜ r < 4294967296 ⌝ }
 {
-    count as u64
+    x as u64
 }
 
-// One more, short of the largest number.
-fn more(count: u32) -> u32 {
-    if count < 4000000000 { count + 1 } else { count }
-}
-
-// An answer as the reference gives it: 0 holds, 10 refused with 10, 100 and the pair's number; 1 for what it never gives.
-fn as_number(answer: Checked) -> usize {
-    match answer {
-        Checked::Holds => 0,
-        Checked::Refused(k) => if k == 10 { 10 } else { 1 },
-        Checked::Blocked(k) => if k < 1000 { 100 + k as usize } else { 1 },
-    }
-}
-
-fn counted(t: Tally, answer: usize, expected: usize) -> Tally {
-    let mut sum = t;
-    if answer != expected {
-        sum.differ = more(sum.differ);
-        return sum;
-    }
-    if answer == 0 {
-        sum.holds = more(sum.holds);
-        return sum;
-    }
-    if answer == 10 {
-        sum.refused = more(sum.refused);
-        return sum;
-    }
-    sum.blocked = more(sum.blocked);
-    sum
-}
-
-// Compares check with the reference on every vector for one sheet.
-fn all_vectors(n: usize, bands: &[u8; 64], sheet: &[u8], t: Tally) -> Tally
-    requires { ⌜ n ≤ 6 ⌝ }
+// Every vector for one sheet.
+fn try_vectors(counts: [u32; 40], round: u32, bands: &[u8; 64], sheet: &[u8], n: usize) -> [u32; 40]
+    requires { ⌜ n < 7 ⌝ }
 {
-    let mut sum = t;
-    let last = long(VECTORS[n]);
+    let last = count(VECTORS[n]);
+    let mut sums = counts;
     let mut v = 0;
     while v < last {
-        let m = vectors::vector(v);
-        let answer = as_number(calls::checking::check(sheet, &m[0..n]));
-        sum = counted(sum, answer, reference::expected(n, bands, &m));
+        let more = try_vector(sums, round, bands, sheet, n, v);
+        sums = more;
         v += 1;
     }
-    sum
+    sums
 }
 
 // Three times out of four two joints list each other, each in a band from 1 to 3.
 fn style() -> Style {
     Style {
         skip: 1,
-        width: 3,
+        width: 2,
         turn: 0,
     }
 }
 
+// The first bytes of a sheet, and every vector for them.
+fn try_bytes(
+    counts: [u32; 40],
+    round: u32,
+    bands: [u8; 64],
+    bytes: [u8; 384],
+    size: usize,
+    n: usize,
+) -> [u32; 40]
+    requires { ⌜ n < 7 ⌝ }
+{
+    if 384 < size {
+        return counts;
+    }
+    try_vectors(counts, round, &bands, &bytes[0..size], n)
+}
+
 // One random sheet, of 0 to 6 joints.
-fn one_round(round: u32, t: Tally) -> Tally
+fn try_round(counts: [u32; 40], round: u32) -> [u32; 40]
     requires { ⌜ round < 1000 ⌝ }
 {
     let n = (round % 7) as usize;
-    let bands = samples::bands_of(n, 61 * round, style());
-    let sheet = samples::sheet_of(n, &bands);
-    let len = samples::length_of(n, &bands);
-    all_vectors(n, &bands, &sheet[0..len], t)
+    let sheet = drawn_sheet(n, 61 * round, style());
+    let bands = sheet.bands;
+    let bytes = sheet.bytes;
+    try_bytes(add(counts, SHEETS, 1), round, bands, bytes, sheet.size, n)
 }
 
-fn print_line(word: &[u8], number: u64) {
-    io::write_all(STDOUT_FILENO, word);
-    io::print_decimal(STDOUT_FILENO, number);
-    io::write_all(STDOUT_FILENO, b"\n");
-}
-
-fn print_answer(answer: Checked) {
-    match answer {
-        Checked::Holds => {
-            io::write_all(STDOUT_FILENO, b"holds\n");
-        }
-        Checked::Refused(k) => {
-            print_line(b"refused ", k as u64);
-        }
-        Checked::Blocked(k) => {
-            print_line(b"blocked ", k as u64);
-        }
+fn try_rounds(counts: [u32; 40]) -> [u32; 40] {
+    let mut sums = counts;
+    let mut round = 0;
+    while round < ROUNDS {
+        let more = try_round(sums, round);
+        sums = more;
+        round += 1;
     }
+    sums
 }
 
-fn try_one(name: &[u8], sheet: &[u8], pairing: &[u8]) {
-    io::write_all(STDOUT_FILENO, name);
-    print_answer(calls::checking::check(sheet, pairing));
+fn long(x: u8) -> usize
+    ensures { λ r. ⌜ r < 256 ⌝ }
+{
+    x as usize
 }
 
-// Pairings that are no matching of row g's sheet.
-fn refused_pairings(sheet: &[u8]) {
-    try_one(b"a byte too many: ", sheet, b"\x03\x02\x01\x00\xff");
-    try_one(b"a byte too few: ", sheet, b"\x03\x02\x01");
-    try_one(b"no joint: ", sheet, b"\x01\x00\xff\x04");
-    try_one(b"not symmetric: ", sheet, b"\x01\x02\x01\xff");
-    try_one(b"not listed: ", sheet, b"\x02\xff\x00\xff");
+// What check answers to a pairing, which stands after its length.
+fn answer_to(sheet: &[u8], offered: [u8; 6]) -> u32 {
+    let len = long(offered[0]);
+    if 5 < len {
+        return 0;
+    }
+    number_of(check(sheet, &offered[1..len + 1]))
 }
 
-// The bands of row g.
-fn row_g() -> [u8; 64] {
-    let mut bands = [0u8; 64];
-    bands[1] = 1;
-    bands[3] = 2;
-    bands[8] = 2;
-    bands[10] = 1;
-    bands[17] = 2;
-    bands[19] = 1;
-    bands[24] = 1;
-    bands[26] = 2;
-    bands
+// The pairings offered to row g's sheet.
+fn try_offered(sheet: &[u8], counts: [u32; 40]) -> [u32; 40] {
+    let mut sums = counts;
+    let mut k = 0;
+    while k < 7 {
+        let more = add(sums, ANSWERS + k, answer_to(sheet, OFFERED[k]));
+        sums = more;
+        k += 1;
+    }
+    sums
 }
 
-// Row j, the pairing of row g, pairings that are refused, and a sheet that is.
-fn rows() {
-    let bands = row_g();
-    let sheet = samples::sheet_of(4, &bands);
-    let len = samples::length_of(4, &bands);
-    let row = &sheet[0..len];
-    try_one(b"row j: ", row, b"\x01\x00\xff\xff");
-    try_one(b"row g: ", row, b"\x03\x02\x01\x00");
-    refused_pairings(row);
-    try_one(b"an empty sheet: ", &sheet[0..0], b"\x01");
+fn row_g() -> [u8; 384] {
+    let sheet = sheet_of(4, ROW_G);
+    sheet.bytes
+}
+
+fn report(counts: &[u32; 40]) {
+    tally::print(
+        b"comparisons, differences: # #\n\
+answers (500 holds, a refusal's number, 1000 and the number of the lowest pair that blocks)\n\
+row j: #\n\
+row g: #\n\
+a byte too many: #\n\
+a byte too few: #\n\
+no joint: #\n\
+not symmetric: #\n\
+not listed: #\n\
+an empty sheet: #\n\
+vectors that held, were refused, were blocked: # # #\n\
+sheets: #\n",
+        counts,
+    );
 }
 
 fn main() {
-    rows();
-    let mut t = Tally {
-        holds: 0,
-        blocked: 0,
-        refused: 0,
-        differ: 0,
-    };
-    let mut round = 0;
-    while round < ROUNDS {
-        t = one_round(round, t);
-        round += 1;
-    }
-    print_line(b"holds ", t.holds as u64);
-    print_line(b"blocked ", t.blocked as u64);
-    print_line(b"refused ", t.refused as u64);
-    if t.differ == 0 {
-        io::write_all(STDOUT_FILENO, b"agree\n");
-    } else {
-        print_line(b"differ ", t.differ as u64);
-    }
+    let sheet = row_g();
+    let one = try_offered(&sheet[0..91], [0u32; 40]);
+    let two = add(one, ANSWERS + 7, number_of(check(&sheet[0..0], b"\x01")));
+    report(&try_rounds(two));
 }

@@ -1,39 +1,41 @@
 // Sheets of up to 8 joints from a fixed generator, for the test programs. Bands stand row by row, 8 to a joint, 0 for unlisted.
 ghost use Prim.Native.Nat.{_<_, _≤_};
 
-// Of four pairs about `skip` are not listed. Bands vary by `width`, and are worse by `turn` for each joint between, round the ring of joints.
+// Of four pairs about `skip` are not listed. Bands differ by up to `width`, below 64, and are worse by `turn`, one of 0, 2, 4 and 8,
+// for each joint between, round the ring of joints.
 pub struct Style {
     pub skip: u32,
     pub width: u32,
     pub turn: u32,
 }
 
+// Where the generator stands, and the bands that it has drawn.
+struct Drawn {
+    at: u32,
+    bands: [u8; 64],
+}
+
+// A sheet: its count of joints, its bands, its bytes, with zeros after them, and how many they are.
+pub struct Sheet {
+    pub n: usize,
+    pub bands: [u8; 64],
+    pub bytes: [u8; 384],
+    pub size: usize,
+}
+
 // The generator's next number.
 pub fn next(x: u32) -> u32
-    requires { ⌜ x < 65537 ⌝ }
     ensures { λ r. ⌜ r < 65537 ⌝ }
 {
-    (75 * x + 74) % 65537
+    (75 * (x % 65537) + 74) % 65537
 }
 
-// x % width, and 0 where width is 0 or too large for a band.
-fn spread(x: u32, width: u32) -> u32
-    ensures { λ r. ⌜ r < 64 ⌝ }
-{
-    if width == 0 {
-        return 0;
-    }
-    let rest = x % width;
-    if rest < 64 { rest } else { 0 }
-}
-
-// turn × step, for a turn of up to 8.
-fn lean(turn: u32, step: u32) -> u32
+// turn × step.
+fn lean(turn: u32, step: usize) -> usize
     requires { ⌜ step < 8 ⌝ }
     ensures { λ r. ⌜ r ≤ 56 ⌝ }
 {
     match turn {
-        1 => step,
         2 => 2 * step,
         4 => 4 * step,
         8 => 8 * step,
@@ -41,113 +43,129 @@ fn lean(turn: u32, step: u32) -> u32
     }
 }
 
-fn band(x: u32, width: u32, turn: u32, step: u32) -> u8
+fn band(x: u32, style: Style, step: usize) -> u8
     requires { ⌜ step < 8 ⌝ }
 {
-    (spread(x / 4, width) + lean(turn, step) + 1) as u8
+    let spread = x / 4 % (style.width % 64 + 1) % 64;
+    (spread as usize + lean(style.turn, step) + 1) as u8
 }
 
-// If a is below b: their pair is not listed, or each has a band in the other's list. Returns where the generator stands.
-fn list_pair(x: u32, bands: &mut [u8; 64], a: usize, b: usize, n: usize, style: Style) -> u32
-    requires { ⌜ (x < 65537) × (b < n) × (n ≤ 8) ⌝ }
-    ensures { λ r. ⌜ r < 65537 ⌝ }
+fn with_band(bands: [u8; 64], a: usize, b: usize, band: u8) -> [u8; 64]
+    requires { ⌜ (a < 8) × (b < 8) ⌝ }
+{
+    let mut more = bands;
+    more[8 * a + b] = band;
+    more
+}
+
+// If a is below b and b below n: their pair is not listed, or each has a band in the other's list.
+fn list_pair(drawn: Drawn, style: Style, n: usize, a: usize, b: usize) -> Drawn
+    requires { ⌜ (a < 8) × (b < 8) × (n ≤ 8) ⌝ }
 {
     if b <= a {
-        return x;
+        return drawn;
     }
-    let y = next(x);
+    if n <= b {
+        return drawn;
+    }
+    let bands = drawn.bands;
+    let y = next(drawn.at);
     if y % 4 < style.skip {
-        return y;
+        return Drawn {
+            at: y,
+            bands: bands,
+        };
     }
     let z = next(y);
     let step = b - a;
-    bands[8 * a + b] = band(y, style.width, style.turn, step as u32);
-    bands[8 * b + a] = band(z, style.width, style.turn, (n - step) as u32);
-    z
+    let one = with_band(bands, a, b, band(y, style, step));
+    Drawn {
+        at: z,
+        bands: with_band(one, b, a, band(z, style, n - step)),
+    }
 }
 
 // The bands of n joints.
-pub fn bands_of(n: usize, seed: u32, style: Style) -> [u8; 64]
-    requires { ⌜ (n ≤ 8) × (seed < 65537) ⌝ }
-{
-    let mut bands = [0u8; 64];
-    let mut x = seed;
-    let mut k = 0;
-    while k < 64 {
-        if k % 8 < n {
-            x = list_pair(x, &mut bands, k / 8, k % 8, n, style);
-        }
-        k += 1;
-    }
-    bands
-}
-
-// The count of joints and their labels: a, b, c and so on.
-fn write_labels(n: usize, sheet: &mut [u8; 384])
+fn bands_of(n: usize, seed: u32, style: Style) -> [u8; 64]
     requires { ⌜ n ≤ 8 ⌝ }
 {
-    sheet[0] = n as u8;
+    let mut drawn = Drawn {
+        at: seed,
+        bands: [0u8; 64],
+    };
+    let mut k = 0;
+    while k < 64 {
+        drawn = list_pair(drawn, style, n, k / 8, k % 8);
+        k += 1;
+    }
+    drawn.bands
+}
+
+// The count of joints and their labels, a, b, c and so on, and zeros after them.
+fn labels(n: usize) -> [u8; 384]
+    requires { ⌜ n ≤ 8 ⌝ }
+{
+    let mut bytes = [0u8; 384];
+    bytes[0] = n as u8;
     let mut i = 0;
     while i < n {
-        sheet[1 + 16 * i] = 97 + i as u8;
+        bytes[1 + 16 * i] = 97 + i as u8;
         i += 1;
     }
+    bytes
 }
 
-fn write_entry(sheet: &mut [u8; 384], at: usize, k: usize, band: u8)
-    requires { ⌜ (at < 382) × (k < 64) ⌝ }
-{
-    sheet[at] = (k / 8) as u8;
-    sheet[at + 1] = (k % 8) as u8;
-    sheet[at + 2] = band;
+fn push(sheet: Sheet, byte: u8) -> Sheet {
+    let mut more = sheet;
+    let at = more.size;
+    if at < 384 {
+        more.bytes[at] = byte;
+        more.size = at + 1;
+    }
+    more
 }
 
-// How many entries these bands have.
-fn entries_of(bands: &[u8; 64]) -> usize
-    ensures { λ r. ⌜ r ≤ 64 ⌝ }
+// The sheet and the entry k after it, if it has a band.
+fn with_entry(sheet: Sheet, k: usize, band: u8) -> Sheet
+    requires { ⌜ k < 64 ⌝ }
 {
-    let mut m = 0;
+    if band == 0 {
+        return sheet;
+    }
+    push(push(push(sheet, (k / 8) as u8), (k % 8) as u8), band)
+}
+
+// The sheet and the entries of its bands after it.
+fn with_entries(sheet: Sheet) -> Sheet {
+    let mut more = sheet;
     let mut k = 0;
     while k < 64 {
-        if bands[k] != 0 {
-            m += 1;
-        }
+        more = with_entry(more, k, more.bands[k]);
         k += 1;
     }
-    m
+    more
 }
 
-// The entries, ascending, from `start` on.
-fn write_entries(bands: &[u8; 64], sheet: &mut [u8; 384], start: usize)
-    requires { ⌜ start ≤ 131 ⌝ }
+// The sheet of n joints with these bands.
+pub fn sheet_of(n: usize, bands: [u8; 64]) -> Sheet
+    requires { ⌜ n ≤ 8 ⌝ }
 {
-    let mut at = start;
-    let mut k = 0;
-    while k < 64 {
-        let band = bands[k];
-        if band != 0 {
-            write_entry(sheet, at, k, band);
-            at += 3;
-        }
-        k += 1;
+    let start = 16 * n + 3;
+    let mut sheet = with_entries(Sheet {
+        n: n,
+        bands: bands,
+        bytes: labels(n),
+        size: start,
+    });
+    if start <= sheet.size {
+        sheet.bytes[start - 2] = ((sheet.size - start) / 3 % 256) as u8;
     }
-}
-
-// The length of the sheet of these bands.
-pub fn length_of(n: usize, bands: &[u8; 64]) -> usize
-    requires { ⌜ n ≤ 8 ⌝ }
-    ensures { λ r. ⌜ r ≤ 384 ⌝ }
-{
-    16 * n + 3 + 3 * entries_of(bands)
-}
-
-// The sheet of these bands, with zeros after it.
-pub fn sheet_of(n: usize, bands: &[u8; 64]) -> [u8; 384]
-    requires { ⌜ n ≤ 8 ⌝ }
-{
-    let mut sheet = [0u8; 384];
-    write_labels(n, &mut sheet);
-    sheet[16 * n + 1] = entries_of(bands) as u8;
-    write_entries(bands, &mut sheet, 16 * n + 3);
     sheet
+}
+
+// A sheet of n joints that the generator draws.
+pub fn drawn_sheet(n: usize, seed: u32, style: Style) -> Sheet
+    requires { ⌜ n ≤ 8 ⌝ }
+{
+    sheet_of(n, bands_of(n, seed, style))
 }

@@ -1,13 +1,16 @@
 // What the calls answer, as one number: that of a refusal; 101 or 102 for none with its phase; 200 and the count of pairs;
-// 1000 and the count of entries. It is 0 if bytes of the buffer changed that must not.
+// 1000 and the count of entries. It is 0 if bytes of the buffer are not what they must be.
+use crate::Choices;
+use calls::Counts;
 use calls::End;
 use calls::Phase;
 use calls::Settled;
 use calls::Shortened;
+use calls::counting::count_working;
 use calls::settling::settle;
 use calls::shortening::shorten;
-use check::same;
-ghost use Prim.Native.Nat.{_<_};
+use samples::Sheet;
+ghost use Prim.Native.Nat.{_≤_};
 
 pub const NONE_ONE: u32 = 101;
 
@@ -15,10 +18,16 @@ pub const NONE_TWO: u32 = 102;
 
 pub const PAIRED: u32 = 200;
 
-pub const LISTS: u32 = 1000;
+const LISTS: u32 = 1000;
 
 // What buffers are filled with.
 pub const FILL: u8 = 170;
+
+// What a call answered, and its buffer.
+pub struct Answer {
+    pub number: u32,
+    pub out: [u8; 256],
+}
 
 fn end_number(end: End) -> u32 {
     match end {
@@ -26,11 +35,11 @@ fn end_number(end: End) -> u32 {
             Phase::One => NONE_ONE,
             Phase::Two => NONE_TWO,
         },
-        End::Paired(count) => if count < 65 { PAIRED + count } else { 0 },
+        End::Paired(count) => PAIRED + count % 256,
     }
 }
 
-fn settled_number(answer: Settled) -> u32 {
+pub fn settled_number(answer: Settled) -> u32 {
     match answer {
         Settled::Ended(end) => end_number(end),
         Settled::Refused(number) => number as u32,
@@ -40,15 +49,32 @@ fn settled_number(answer: Settled) -> u32 {
 fn shortened_number(answer: Shortened) -> u32 {
     match answer {
         Shortened::None => NONE_ONE,
-        Shortened::Lists(count) => if count < 65536 { LISTS + count } else { 0 },
+        Shortened::Lists(count) => LISTS + count % 65536,
         Shortened::Refused(number) => number as u32,
     }
 }
 
+fn least(x: usize, most: usize) -> usize
+    ensures { λ r. ⌜ r ≤ most ⌝ }
+{
+    if x < most { x } else { most }
+}
+
+// How many bytes a call that answers so writes.
+fn written(number: u32, n: usize) -> usize {
+    if number < PAIRED {
+        return 0;
+    }
+    if number < LISTS {
+        return n;
+    }
+    2 + 3 * ((number - LISTS) as usize)
+}
+
 // Is a buffer as it was filled from `start` on?
-fn is_filled(out: &[u8], start: usize) -> bool {
+fn is_filled(out: [u8; 256], start: usize) -> bool {
     let mut i = start;
-    while i < out.len() {
+    while i < 256 {
         if out[i] != FILL {
             return false;
         }
@@ -57,47 +83,97 @@ fn is_filled(out: &[u8], start: usize) -> bool {
     true
 }
 
-// How many bytes settle writes.
-fn settle_writes(answer: u32, n: usize) -> usize {
-    if answer < PAIRED { 0 } else { n }
-}
-
-// How many bytes shorten writes.
-fn shorten_writes(answer: u32) -> usize {
-    if answer < LISTS {
-        return 0;
+// An answer, whose number is 0 if bytes changed past those that the call writes.
+fn answer_of(number: u32, n: usize, out: [u8; 256]) -> Answer {
+    let kept = is_filled(out, written(number, n));
+    Answer {
+        number: if kept { number } else { 0 },
+        out: out,
     }
-    2 + 3 * ((answer - LISTS) as usize)
 }
 
-fn unless_changed(answer: u32, kept: bool) -> u32 {
-    if kept { answer } else { 0 }
-}
-
-// Settles into a filled buffer.
-pub fn settle_into(sheet: &[u8], choices: &[u8], n: usize, out: &mut [u8]) -> u32 {
-    let answer = settled_number(settle(sheet, choices, out));
-    unless_changed(answer, is_filled(out, settle_writes(answer, n)))
-}
-
-// Shortens into a filled buffer.
-pub fn shorten_into(sheet: &[u8], choices: &[u8], out: &mut [u8]) -> u32 {
-    let answer = shortened_number(shorten(sheet, choices, out));
-    unless_changed(answer, is_filled(out, shorten_writes(answer)))
-}
-
-// Did settle answer as expected, and is its buffer as expected?
-pub fn settled_same(answer: u32, expected: u32, out: &[u8; 16], kept: &[u8; 16]) -> bool {
-    if answer != expected {
-        return false;
+// A refusal, which changes no byte.
+pub fn refused(number: u32) -> Answer {
+    Answer {
+        number: number,
+        out: [FILL; 256],
     }
-    same(out, kept)
 }
 
-// Did shorten answer as expected, and is its buffer as expected?
-pub fn shortened_same(answer: u32, expected: u32, out: &[u8; 256], kept: &[u8; 256]) -> bool {
-    if answer != expected {
-        return false;
+// Settles or shortens.
+pub fn number_of(sheet: &[u8], choices: &[u8], whole: bool, out: &mut [u8]) -> u32 {
+    if whole {
+        return settled_number(settle(sheet, choices, out));
     }
-    same(out, kept)
+    shortened_number(shorten(sheet, choices, out))
+}
+
+// Settles or shortens on the first `size` bytes and the first `len` choices.
+fn call_parts(
+    bytes: [u8; 384],
+    size: usize,
+    choices: [u8; 64],
+    len: usize,
+    whole: bool,
+    out: &mut [u8],
+) -> u32
+    requires { ⌜ (size ≤ 384) × (len ≤ 64) ⌝ }
+{
+    number_of(&bytes[0..size], &choices[0..len], whole, out)
+}
+
+// Settles or shortens into the first `room` bytes of a filled buffer.
+pub fn call(sheet: Sheet, choices: Choices, whole: bool, room: usize) -> Answer {
+    let mut out = [FILL; 256];
+    let end = least(room, 256);
+    let bytes = sheet.bytes;
+    let list = choices.bytes;
+    let size = least(sheet.size, 384);
+    let len = least(choices.len, 64);
+    let number = call_parts(bytes, size, list, len, whole, &mut out[0..end]);
+    answer_of(number, sheet.n, out)
+}
+
+fn count_parts(bytes: [u8; 384], size: usize, choices: [u8; 64], len: usize, whole: bool) -> Counts
+    requires { ⌜ (size ≤ 384) × (len ≤ 64) ⌝ }
+{
+    count_working(&bytes[0..size], &choices[0..len], whole)
+}
+
+// The counts of a working.
+pub fn counts(sheet: Sheet, choices: Choices, whole: bool) -> Counts {
+    let bytes = sheet.bytes;
+    let list = choices.bytes;
+    count_parts(
+        bytes,
+        least(sheet.size, 384),
+        list,
+        least(choices.len, 64),
+        whole,
+    )
+}
+
+// The partner bytes of the first n joints, 255 after them.
+pub fn partners(out: [u8; 256], n: usize) -> [u8; 8] {
+    let mut m = [255u8; 8];
+    let mut i = 0;
+    while i < 8 {
+        m[i] = if i < n { out[i] } else { 255 };
+        i += 1;
+    }
+    m
+}
+
+// Are two answers and their buffers the same?
+pub fn is_same(one: Answer, two: Answer) -> bool {
+    let a = one.out;
+    let b = two.out;
+    let mut i = 0;
+    while i < 256 {
+        if a[i] != b[i] {
+            return false;
+        }
+        i += 1;
+    }
+    one.number == two.number
 }

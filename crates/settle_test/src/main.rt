@@ -1,119 +1,209 @@
 // Tries settle and shorten: rows n and o of document 01, and random sheets of up to 8 joints beside a brute-force reference.
 mod answers;
-mod buffers;
-mod choices;
-mod reference;
+mod brute;
+mod growing;
+mod places;
 mod rows;
-mod tally;
 
-use answers::FILL;
+use answers::Answer;
+use answers::call;
+use answers::counts;
+use answers::is_same;
+use answers::partners;
+use answers::refused;
+use brute::Found;
+use brute::find_stable;
 use calls::Counts;
-use calls::counting::count_working;
-use libc::STDOUT_FILENO;
+use growing::none;
+use growing::with;
+use places::noted;
+use reference::paired;
+use reference::write_matchings;
+use samples::Sheet;
 use samples::Style;
-use tally::expect;
-use tally::print_line;
+use samples::drawn_sheet;
+use tally::add;
+use tally::compare;
 ghost use Prim.Native.Nat.{_<_, _≤_};
 
 const ROUNDS: u32 = 3072;
 
-// What is known of a sheet: its number, its joints, what the calls answer with no choices, how many matchings are super-stable.
+// A sheet: its number, where the generator starts, and what the calls answer with no choices.
 pub struct Case {
     pub round: u32,
-    pub n: usize,
-    pub settled: u32,
-    pub shortened: u32,
-    pub stable: usize,
+    pub seed: u32,
+    pub sheet: Sheet,
+    pub settled: Answer,
+    pub shortened: Answer,
 }
 
-fn count_verdict(case: Case, t: &mut [u32; 22]) {
-    if case.settled == answers::NONE_ONE {
-        tally::count(t, tally::NONE_ONE);
-    }
-    if case.settled == answers::NONE_TWO {
-        tally::count(t, tally::NONE_TWO);
-    }
-    if answers::PAIRED <= case.settled {
-        tally::count(t, tally::PAIRED);
-    }
-    if 1 < case.stable {
-        tally::count(t, tally::SEVERAL);
+// Bytes of choices, and how many there are.
+pub struct Choices {
+    pub bytes: [u8; 64],
+    pub len: usize,
+}
+
+// From many ties to few, from lists that lean nowhere to lists that lean to the next joint.
+fn style(k: u32, skip: u32) -> Style {
+    match k {
+        0 => Style {
+            skip: skip,
+            width: 2,
+            turn: 0,
+        },
+        1 => Style {
+            skip: skip,
+            width: 5,
+            turn: 2,
+        },
+        2 => Style {
+            skip: skip,
+            width: 11,
+            turn: 4,
+        },
+        _ => Style {
+            skip: skip,
+            width: 59,
+            turn: 8,
+        },
     }
 }
 
-// None, or a pairing?
-fn is_end(settled: u32) -> bool {
+// 0 to 8 joints, then 2 to 8.
+fn joints(round: u32) -> usize
+    ensures { λ r. ⌜ r ≤ 8 ⌝ }
+{
+    let k = (round % 16) as usize;
+    if k < 9 { k } else { k - 7 }
+}
+
+// The sheet of a round.
+fn sheet_of(round: u32, seed: u32) -> Sheet {
+    drawn_sheet(joints(round), seed, style(round / 48 % 4, round / 16 % 3))
+}
+
+// The sheet of a round with what the calls answer with no choices.
+fn case_of(round: u32) -> Case {
+    let seed = 181 * (round % 65536) % 65537;
+    let sheet = sheet_of(round, seed);
+    Case {
+        round: round,
+        seed: seed,
+        sheet: sheet,
+        settled: call(sheet, none(), true, 256),
+        shortened: call(sheet, none(), false, 256),
+    }
+}
+
+// Is a pairing super-stable?
+fn is_stable(sheet: Sheet, answer: Answer) -> bool {
+    let out = answer.out;
+    let bands = sheet.bands;
+    reference::is_stable(bands, partners(out, sheet.n))
+}
+
+// Is a pairing super-stable, and are shortened lists those of no choices?
+fn is_result(case: Case, whole: bool, answer: Answer) -> bool {
+    if whole {
+        return is_stable(case.sheet, answer);
+    }
+    is_same(answer, case.shortened)
+}
+
+// What a call answers to these choices; 0 if its result is wrong.
+pub fn answer_to(case: Case, choices: Choices, whole: bool) -> u32 {
+    let answer = call(case.sheet, choices, whole, 256);
+    if answer.number < answers::PAIRED {
+        return answer.number;
+    }
+    if is_result(case, whole, answer) {
+        return answer.number;
+    }
+    0
+}
+
+// Where the end of a working is counted; 40, which is no place, if it is none.
+fn place_of(settled: u32) -> usize {
     if settled == answers::NONE_ONE {
-        return true;
+        return places::NONE_ONE;
     }
     if settled == answers::NONE_TWO {
-        return true;
+        return places::NONE_TWO;
     }
-    answers::PAIRED <= settled
+    if settled < answers::PAIRED {
+        40
+    } else {
+        places::PAIRED
+    }
 }
 
-// 1 if joint i is one of n and paired, else 0.
-fn one_paired(out: &[u8; 16], n: usize, i: usize) -> u32
-    requires { ⌜ i < 16 ⌝ }
-    ensures { λ r. ⌜ r ≤ 1 ⌝ }
+// A checksum of what it was and the first bytes of a buffer.
+fn checksum(sum: u32, out: [u8; 256], len: usize) -> u32
+    requires { ⌜ len ≤ 256 ⌝ }
 {
-    if n <= i {
-        return 0;
-    }
-    if out[i] == 255 { 0 } else { 1 }
-}
-
-// How many of the n joints are paired.
-fn count_paired(out: &[u8; 16], n: usize) -> u32 {
-    let mut count = 0;
+    let mut s = sum % 65537;
     let mut i = 0;
-    while i < 16 {
-        count += one_paired(out, n, i);
+    while i < len {
+        s = (31 * s + rows::long(out[i])) % 65537;
         i += 1;
     }
-    count
+    s
 }
 
-// A pairing beside the super-stable matchings.
-fn compare_pairing(case: Case, found: &[u8; 6112], first: &[u8; 16], t: &mut [u32; 22]) {
-    if case.settled < answers::PAIRED {
-        return;
+fn add_checksum(counts: [u32; 40], k: usize, answer: Answer, len: usize) -> [u32; 40]
+    requires { ⌜ (k < 40) × (len ≤ 256) ⌝ }
+{
+    let mut sums = counts;
+    let out = answer.out;
+    sums[k] = checksum(sums[k], out, len);
+    sums
+}
+
+// What is counted of the answers with no choices.
+fn count_answers(case: Case, counts: [u32; 40], found: Found) -> [u32; 40] {
+    let one = add_checksum(counts, places::PAIRINGS, case.settled, 16);
+    let two = add_checksum(one, places::SHORTENED, case.shortened, 256);
+    let three = add(two, place_of(case.settled.number), 1);
+    let four = add(three, places::STABLE, found.stable);
+    add(four, places::SEVERAL, reference::one(1 < found.stable))
+}
+
+// The verdict and its phase.
+fn compare_verdict(case: Case, counts: [u32; 40], found: Found) -> [u32; 40] {
+    let settled = case.settled.number;
+    let is_paired = answers::PAIRED <= settled;
+    let is_none_one = settled == answers::NONE_ONE;
+    let short_none = case.shortened.number == answers::NONE_ONE;
+    let one = compare(counts, places::END, case.round, place_of(settled) < 40);
+    let two = compare(
+        one,
+        places::VERDICT,
+        case.round,
+        is_paired == (0 < found.stable),
+    );
+    compare(two, places::PHASE, case.round, is_none_one == short_none)
+}
+
+// A pairing, which pairs the joints of `set`, beside the super-stable matchings.
+fn compare_pairing(case: Case, counts: [u32; 40], found: Found, set: u32) -> [u32; 40] {
+    let settled = case.settled.number;
+    if settled < answers::PAIRED {
+        return counts;
     }
-    let n = case.n;
-    expect(
-        t,
+    let pairs = settled - answers::PAIRED;
+    let one = compare(
+        counts,
+        places::PAIRING,
         case.round,
-        reference::is_among(found, case.stable, first, n),
-        b"the pairing",
+        is_stable(case.sheet, case.settled),
     );
-    expect(
-        t,
+    let two = compare(one, places::JOINTS, case.round, found.alike == found.stable);
+    compare(
+        two,
+        places::PAIRS,
         case.round,
-        reference::all_pair_same(found, case.stable, first, n),
-        b"which joints are paired",
-    );
-    expect(
-        t,
-        case.round,
-        count_paired(first, n) / 2 == case.settled - answers::PAIRED,
-        b"the count of pairs",
-    );
-}
-
-fn compare_verdict(case: Case, t: &mut [u32; 22]) {
-    expect(t, case.round, is_end(case.settled), b"the end");
-    expect(
-        t,
-        case.round,
-        (answers::PAIRED <= case.settled) == (0 < case.stable),
-        b"the verdict",
-    );
-    expect(
-        t,
-        case.round,
-        (case.settled == answers::NONE_ONE) == (case.shortened == answers::NONE_ONE),
-        b"the phase",
-    );
+        u32::count_ones(set) / 2 == pairs,
+    )
 }
 
 // Shorten's working is settle's as far as phase one goes.
@@ -131,189 +221,115 @@ fn counts_fit(whole: Counts, part: Counts) -> bool {
 }
 
 // The counts of the two workings with no choices.
-fn compare_counts(case: Case, sheet: &[u8], t: &mut [u32; 22]) {
-    let whole = count_working(sheet, b"", true);
-    tally::add(t, tally::PROPOSALS, whole.proposals);
-    tally::add(t, tally::CUTS, whole.cuts);
-    let part = count_working(sheet, b"", false);
-    expect(t, case.round, counts_fit(whole, part), b"the counts");
+fn compare_counts(case: Case, sums: [u32; 40]) -> [u32; 40] {
+    let whole = counts(case.sheet, none(), true);
+    let part = counts(case.sheet, none(), false);
+    let one = add(sums, places::PROPOSALS, whole.proposals);
+    let two = add(one, places::CUTS, whole.cuts);
+    compare(two, places::COUNTS, case.round, counts_fit(whole, part))
 }
 
-fn long(x: u8) -> u32
-    ensures { λ r. ⌜ r < 256 ⌝ }
-{
-    x as u32
+// A buffer of `room` bytes, for which an answer is expected.
+fn compare_room(
+    case: Case,
+    counts: [u32; 40],
+    whole: bool,
+    list: Choices,
+    room: usize,
+    expected: Answer,
+) -> [u32; 40] {
+    let answer = call(case.sheet, list, whole, room);
+    let ok = is_same(answer, expected);
+    noted(counts, case.round, whole, answer.number, places::ROOM, ok)
 }
 
-// A checksum of what it was and these bytes.
-fn checksum(sum: u32, bytes: &[u8]) -> u32 {
-    let mut s = sum % 65537;
-    let mut i = 0;
-    while i < bytes.len() {
-        s = (31 * s + long(bytes[i])) % 65537;
-        i += 1;
+// Buffers as long as they must be, and a byte too short, which is refused before a choice is. Elsewhere the calls write into longer ones.
+fn compare_rooms(
+    case: Case,
+    counts: [u32; 40],
+    whole: bool,
+    room: usize,
+    expected: Answer,
+) -> [u32; 40] {
+    let sums = compare_room(case, counts, whole, none(), room, expected);
+    if room == 0 {
+        return sums;
     }
-    s
+    compare_room(case, sums, whole, with(none(), 255), room - 1, refused(9))
+}
+
+// 2 + 3 × m, which is as long as the sheet after its labels.
+fn lists_room(sheet: Sheet) -> usize {
+    let start = sheet.n % 9 * 16 + 1;
+    if sheet.size < start {
+        0
+    } else {
+        sheet.size - start
+    }
+}
+
+// Which joints the answer with no choices pairs.
+fn paired_set(case: Case) -> u32 {
+    let out = case.settled.out;
+    paired(partners(out, case.sheet.n))
 }
 
 // What the calls answer with no choices.
-fn compare(
-    case: Case,
-    sheet: &[u8],
-    found: &[u8; 6112],
-    first: &[u8; 16],
-    short: &[u8; 256],
-    t: &mut [u32; 22],
-) {
-    count_verdict(case, t);
-    t[tally::PAIRINGS] = checksum(t[tally::PAIRINGS], first);
-    t[tally::SHORTENED] = checksum(t[tally::SHORTENED], short);
-    compare_verdict(case, t);
-    compare_pairing(case, found, first, t);
-    compare_counts(case, sheet, t);
+fn compare_answers(case: Case, rows: &[[u8; 8]; 764], counts: [u32; 40]) -> [u32; 40] {
+    let set = paired_set(case);
+    let bands = case.sheet.bands;
+    let found = find_stable(bands, rows, set);
+    let one = count_answers(case, counts, found);
+    let two = compare_verdict(case, one, found);
+    compare_pairing(case, two, found, set)
 }
 
-// One sheet of n joints.
-fn one_sheet(
-    rows: &[u8; 6112],
-    bands: &[u8; 64],
-    sheet: &[u8],
-    n: usize,
-    round: u32,
-    seed: u32,
-    t: &mut [u32; 22],
-)
-    requires { ⌜ seed < 65537 ⌝ }
-{
-    let mut found = [255u8; 6112];
-    let stable = reference::write_stable(bands, rows, &mut found);
-    tally::add(t, tally::STABLE, stable as u32);
-    let mut first = [FILL; 16];
-    let settled = answers::settle_into(sheet, b"", n, &mut first);
-    let mut short = [FILL; 256];
-    let shortened = answers::shorten_into(sheet, b"", &mut short);
-    let case = Case {
-        round: round,
-        n: n,
-        settled: settled,
-        shortened: shortened,
-        stable: stable,
-    };
-    compare(case, sheet, &found, &first, &short, t);
-    buffers::buffers(case, sheet, &first, &short, t);
-    choices::lists(case, sheet, &found, &first, &short, seed, t);
+// One sheet.
+fn try_sheet(case: Case, rows: &[[u8; 8]; 764], counts: [u32; 40]) -> [u32; 40] {
+    let one = compare_answers(case, rows, counts);
+    let two = compare_counts(case, one);
+    let three = compare_rooms(case, two, true, case.sheet.n, case.settled);
+    let four = compare_rooms(case, three, false, lists_room(case.sheet), case.shortened);
+    growing::lists(case, four)
 }
 
-// From many ties to few, from lists that lean nowhere to lists that lean to the next joint.
-fn style(k: u32, skip: u32) -> Style {
-    match k {
-        0 => Style {
-            skip: skip,
-            width: 3,
-            turn: 0,
-        },
-        1 => Style {
-            skip: skip,
-            width: 6,
-            turn: 2,
-        },
-        2 => Style {
-            skip: skip,
-            width: 12,
-            turn: 4,
-        },
-        _ => Style {
-            skip: skip,
-            width: 60,
-            turn: 8,
-        },
+fn try_sheets(rows: &[[u8; 8]; 764], counts: [u32; 40]) -> [u32; 40] {
+    let mut sums = counts;
+    let mut round = 0;
+    while round < ROUNDS {
+        let more = try_sheet(case_of(round), rows, sums);
+        sums = more;
+        round += 1;
     }
+    sums
 }
 
-// 0 to 8 joints, then 2 to 8.
-fn joints(k: u32) -> usize
-    requires { ⌜ k < 16 ⌝ }
-    ensures { λ r. ⌜ r ≤ 8 ⌝ }
-{
-    if k < 9 { k as usize } else { (k - 7) as usize }
-}
-
-fn one_round(rows: &[u8; 6112], round: u32, t: &mut [u32; 22])
-    requires { ⌜ round < 10000 ⌝ }
-{
-    let n = joints(round % 16);
-    let seed = 181 * round % 65537;
-    let bands = samples::bands_of(n, seed, style(round / 48 % 4, round / 16 % 3));
-    let sheet = samples::sheet_of(n, &bands);
-    let len = samples::length_of(n, &bands);
-    one_sheet(rows, &bands, &sheet[0..len], n, round, seed, t);
-}
-
-// The counts from one place on, before another, in a line after what they count.
-fn print_counts(what: &[u8], t: &[u32; 22], start: usize, end: usize)
-    requires { ⌜ (start ≤ end) × (end ≤ 22) ⌝ }
-{
-    io::write_all(STDOUT_FILENO, what);
-    let mut i = start;
-    while i < end {
-        tally::print_count(t[i]);
-        i += 1;
-    }
-    io::write_all(STDOUT_FILENO, b"\n");
-}
-
-fn print_tally(t: &[u32; 22]) {
-    print_counts(
-        b"pairing, none phase 1, none phase 2:",
-        t,
-        tally::PAIRED,
-        tally::STABLE,
+fn report(counts: &[u32; 40]) {
+    tally::print(
+        b"comparisons, differences: # #\n\
+rows n and o, each its answer (200 and the count of pairs, or a refusal), its bytes 0 and 1, its bytes of 255:\n\
+n, 128 joints: # # # #\n\
+n, 129 joints: # # # #\n\
+o, bands 127: # # # #\n\
+o, bands 128: # # # #\n\
+matchings of 8 joints: #\n\
+sheets: #\n\
+pairing, none phase 1, none phase 2: # # #\n\
+super-stable matchings, sheets with more than one: # #\n\
+proposals, cuts: # #\n\
+lists of choices grown: #\n\
+settle within the rules, refused 9, 11, 12, 13: # # # # #\n\
+shorten within the rules, refused 9, 11, 12, 13: # # # # #\n\
+checksums of pairings, of shortened lists: # #\n",
+        counts,
     );
-    print_counts(
-        b"super-stable matchings, sheets with more than one:",
-        t,
-        tally::STABLE,
-        tally::PROPOSALS,
-    );
-    print_counts(b"proposals, cuts:", t, tally::PROPOSALS, tally::GROWN);
-    print_counts(b"lists of choices grown:", t, tally::GROWN, tally::SETTLE);
-    print_counts(
-        b"settle within the rules, refused 9, 11, 12, 13:",
-        t,
-        tally::SETTLE,
-        tally::SHORTEN,
-    );
-    print_counts(
-        b"shorten within the rules, refused 9, 11, 12, 13:",
-        t,
-        tally::SHORTEN,
-        tally::PAIRINGS,
-    );
-    print_counts(
-        b"checksums of pairings, of shortened lists:",
-        t,
-        tally::PAIRINGS,
-        tally::AGREE,
-    );
-    print_counts(b"comparisons, differences:", t, tally::AGREE, tally::END);
 }
 
 fn main() {
-    rows::rows();
-    let mut rows = [255u8; 6112];
-    print_line(
-        b"matchings of 8 joints: ",
-        reference::write_matchings(&mut rows) as u32,
-    );
-    print_line(b"sheets: ", ROUNDS);
-    let mut t = [0u32; 22];
-    let mut round = 0;
-    while round < ROUNDS {
-        one_round(&rows, round, &mut t);
-        round += 1;
-    }
-    print_tally(&t);
-    if t[tally::DIFFER] == 0 {
-        io::write_all(STDOUT_FILENO, b"agree\n");
-    }
+    let mut rows = [[255u8; 8]; 764];
+    let matchings = write_matchings(&mut rows) as u32;
+    let one = rows::rows([0u32; 40]);
+    let two = add(one, places::MATCHINGS, matchings);
+    let three = add(two, places::SHEETS, ROUNDS);
+    report(&try_sheets(&rows, three));
 }

@@ -1,12 +1,11 @@
 // Rows n and o of document 01.
 use crate::answers::FILL;
-use crate::answers::PAIRED;
-use crate::answers::settle_into;
-use crate::long;
-use crate::tally::print_count;
-use crate::tally::print_line;
-use libc::STDOUT_FILENO;
-ghost use Prim.Native.Nat.{_≤_};
+use crate::answers::number_of;
+use crate::places::ROWS;
+use reference::one;
+use samples::sheet_of;
+use tally::add;
+ghost use Prim.Native.Nat.{_<_, _≤_};
 
 // A sheet of n joints with no entries, and zeros after it. Labels are 0a, 0b and so on.
 fn no_entries(n: usize) -> [u8; 2080]
@@ -23,53 +22,67 @@ fn no_entries(n: usize) -> [u8; 2080]
     sheet
 }
 
-fn count_alone(out: &[u8; 200]) -> u32 {
+// How many bytes are 255.
+fn count_alone(out: [u8; 256]) -> u32 {
     let mut count = 0;
     let mut i = 0;
-    while i < 200 {
-        if out[i] == 255 {
-            count += 1;
-        }
+    while i < 256 {
+        count += one(out[i] == 255);
         i += 1;
     }
     count
 }
 
-fn print_bytes(out: &[u8; 200]) {
-    io::write_all(STDOUT_FILENO, b"  joints 0 and 1:");
-    print_count(long(out[0]));
-    print_count(long(out[1]));
-    print_line(b"\n  bytes 255: ", count_alone(out));
+pub fn long(byte: u8) -> u32
+    ensures { λ r. ⌜ r < 256 ⌝ }
+{
+    byte as u32
 }
 
-// Prints what settle answers, and if it is a pairing its first two bytes and how many bytes are 255.
-fn print_settled(name: &[u8], sheet: &[u8], n: usize) {
-    let mut out = [FILL; 200];
-    let answer = settle_into(sheet, b"", n, &mut out);
-    io::write_all(STDOUT_FILENO, name);
-    if answer < PAIRED {
-        print_line(b": refused ", answer);
-        return;
-    }
-    print_line(b": pairs ", answer - PAIRED);
-    print_bytes(&out);
+// Four numbers from place `at` on: what settle answers, what bytes 0 and 1 are then, and how many are 255.
+fn add_row(counts: [u32; 40], at: usize, number: u32, out: [u8; 256]) -> [u32; 40]
+    requires { ⌜ at ≤ 36 ⌝ }
+{
+    let one = add(counts, at, number);
+    let two = add(one, at + 1, long(out[0]));
+    let three = add(two, at + 2, long(out[1]));
+    add(three, at + 3, count_alone(out))
 }
 
-// Row c with the bands that are given.
-fn row_o(name: &[u8], band: u8) {
+fn row(counts: [u32; 40], at: usize, sheet: &[u8]) -> [u32; 40]
+    requires { ⌜ at ≤ 36 ⌝ }
+{
+    let mut out = [FILL; 256];
+    let number = number_of(sheet, b"", true, &mut out);
+    add_row(counts, at, number, out)
+}
+
+fn row_n(counts: [u32; 40], at: usize, n: usize) -> [u32; 40]
+    requires { ⌜ (at ≤ 36) × (n ≤ 129) ⌝ }
+{
+    let sheet = no_entries(n);
+    row(counts, at, &sheet[0..16 * n + 3])
+}
+
+// The bytes of row c with the bands that are given, and zeros after them.
+fn row_c(band: u8) -> [u8; 384] {
     let mut bands = [0u8; 64];
     bands[1] = band;
     bands[8] = band;
-    let sheet = samples::sheet_of(2, &bands);
-    let len = samples::length_of(2, &bands);
-    print_settled(name, &sheet[0..len], 2);
+    let sheet = sheet_of(2, bands);
+    sheet.bytes
 }
 
-pub fn rows() {
-    let most = no_entries(128);
-    print_settled(b"row n, 128 joints", &most[0..2051], 128);
-    let more = no_entries(129);
-    print_settled(b"row n, 129 joints", &more[0..2067], 129);
-    row_o(b"row o, bands 127", 127);
-    row_o(b"row o, bands 128", 128);
+fn row_o(counts: [u32; 40], at: usize, band: u8) -> [u32; 40]
+    requires { ⌜ at ≤ 36 ⌝ }
+{
+    let sheet = row_c(band);
+    row(counts, at, &sheet[0..41])
+}
+
+pub fn rows(counts: [u32; 40]) -> [u32; 40] {
+    let one = row_n(counts, ROWS, 128);
+    let two = row_n(one, ROWS + 4, 129);
+    let three = row_o(two, ROWS + 8, 127);
+    row_o(three, ROWS + 12, 128)
 }

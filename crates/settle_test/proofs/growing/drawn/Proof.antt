@@ -1,0 +1,27 @@
+-- The loop stands at byte i.
+use Prim.Native.Nat.{_≤_, _-_}
+use native.Mathlib.Omega.{arith}
+use Rattle.settle_test.proofs.growing.drawn.Statement.{statement}
+use Rattle.settle_test.proofs.growing.drawn.Tie as tie
+
+abbrev Inv-loop : tie.InvT-loop
+Inv-loop x n list₀ y₀ i₀ list y i = i ≤ 4
+
+abbrev μ-loop : tie.MeasureT-loop
+μ-loop x n list₀ y₀ i₀ list y i = 4 - i
+
+pub drawn-spec : {M : Type 1} → statement M
+drawn-spec =
+    tie.close
+    (tie.spec
+    Inv-loop
+    μ-loop
+    (λ c κs. tt)
+    (λ c. omega arith)
+    (λ c κs. tt)
+    (λ c κs. tt)
+    (λ c κs. tt)
+    (λ c. omega arith)
+    (λ c. omega arith)
+    (λ c. omega arith)
+    (λ c. tt))
