@@ -1,7 +1,8 @@
 // Tries check: row j of document 01, some refusals, and every vector of partner bytes for random sheets of up to 6 joints,
 // beside a reference written straight from the definition.
-use blocking::Checked;
+use base::wide;
 use calls::checking::check;
+use blocking::Checked;
 use reference::BLOCKED;
 use reference::STABLE;
 use reference::worth;
@@ -227,15 +228,9 @@ fn try_rounds(counts: [u32; 40]) -> [u32; 40] {
     sums
 }
 
-fn long(x: u8) -> usize
-    ensures { λ r. ⌜ r < 256 ⌝ }
-{
-    x as usize
-}
-
 // What check answers to a pairing, which stands after its length.
 fn answer_to(sheet: &[u8], offered: [u8; 6]) -> u32 {
-    let len = long(offered[0]);
+    let len = wide(offered[0]);
     if 5 < len {
         return 0;
     }

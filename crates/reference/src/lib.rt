@@ -1,5 +1,6 @@
 // What a pairing of up to 8 joints is worth, straight from the definition, and every matching, for the test programs. A pairing is 8
 // partner bytes, 255 for unpaired. Bands stand row by row, 8 to a joint, 0 for unlisted.
+use base::wide;
 use std::num::wrapping_add_u32;
 ghost use Prim.Native.Nat.{_<_, _≤_};
 
@@ -13,12 +14,6 @@ pub const BLOCKED: u32 = 1000;
 // b × (b − 1) ÷ 2 for each b.
 const FIRST: [u32; 8] = [0, 0, 1, 3, 6, 10, 15, 21];
 
-fn whole(x: u8) -> usize
-    ensures { λ r. ⌜ r < 256 ⌝ }
-{
-    x as usize
-}
-
 fn band(bands: &[u8; 64], a: usize, b: usize) -> u8
     requires { ⌜ (a < 8) × (b < 8) ⌝ }
 {
@@ -29,11 +24,11 @@ fn band(bands: &[u8; 64], a: usize, b: usize) -> u8
 fn is_misfit(bands: &[u8; 64], m: &[u8; 8], a: usize) -> bool
     requires { ⌜ a < 8 ⌝ }
 {
-    let p = whole(m[a]);
+    let p = wide(m[a]);
     if 8 <= p {
         return p != 255;
     }
-    if whole(m[p]) != a {
+    if wide(m[p]) != a {
         return true;
     }
     band(bands, a, p) == 0
@@ -54,7 +49,7 @@ fn is_matching(bands: &[u8; 64], m: &[u8; 8]) -> bool {
 fn held(bands: &[u8; 64], m: &[u8; 8], a: usize) -> u8
     requires { ⌜ a < 8 ⌝ }
 {
-    let p = whole(m[a]);
+    let p = wide(m[a]);
     if p < 8 { band(bands, a, p) } else { 255 }
 }
 
@@ -66,7 +61,7 @@ fn wants(bands: &[u8; 64], m: &[u8; 8], a: usize, b: usize) -> bool
     if k == 0 {
         return false;
     }
-    if whole(m[a]) == b {
+    if wide(m[a]) == b {
         return false;
     }
     k <= held(bands, m, a)

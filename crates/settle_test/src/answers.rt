@@ -23,25 +23,22 @@ const LISTS: u32 = 1000;
 // What buffers are filled with.
 pub const FILL: u8 = 170;
 
-// What a call answered, and its buffer.
+// What a call answered, its buffer, and this as partner bytes: those of the first n joints, 255 after them.
 pub struct Answer {
     pub number: u32,
     pub out: [u8; 256],
+    pub pairing: [u8; 8],
 }
 
-fn end_number(end: End) -> u32 {
-    match end {
-        End::None(phase) => match phase {
-            Phase::One => NONE_ONE,
-            Phase::Two => NONE_TWO,
-        },
-        End::Paired(count) => PAIRED + count % 256,
-    }
-}
-
-pub fn settled_number(answer: Settled) -> u32 {
+fn settled_number(answer: Settled) -> u32 {
     match answer {
-        Settled::Ended(end) => end_number(end),
+        Settled::Ended(end) => match end {
+            End::None(phase) => match phase {
+                Phase::One => NONE_ONE,
+                Phase::Two => NONE_TWO,
+            },
+            End::Paired(count) => PAIRED + count % 256,
+        },
         Settled::Refused(number) => number as u32,
     }
 }
@@ -83,12 +80,24 @@ fn is_filled(out: [u8; 256], start: usize) -> bool {
     true
 }
 
+// The partner bytes of the first n joints, 255 after them.
+fn partners(out: [u8; 256], n: usize) -> [u8; 8] {
+    let mut m = [255u8; 8];
+    let mut i = 0;
+    while i < 8 {
+        m[i] = if i < n { out[i] } else { 255 };
+        i += 1;
+    }
+    m
+}
+
 // An answer, whose number is 0 if bytes changed past those that the call writes.
-fn answer_of(number: u32, n: usize, out: [u8; 256]) -> Answer {
+pub fn answer_of(number: u32, n: usize, out: [u8; 256]) -> Answer {
     let kept = is_filled(out, written(number, n));
     Answer {
         number: if kept { number } else { 0 },
         out: out,
+        pairing: partners(out, n),
     }
 }
 
@@ -97,6 +106,7 @@ pub fn refused(number: u32) -> Answer {
     Answer {
         number: number,
         out: [FILL; 256],
+        pairing: [FILL; 8],
     }
 }
 
@@ -151,17 +161,6 @@ pub fn counts(sheet: Sheet, choices: Choices, whole: bool) -> Counts {
         least(choices.len, 64),
         whole,
     )
-}
-
-// The partner bytes of the first n joints, 255 after them.
-pub fn partners(out: [u8; 256], n: usize) -> [u8; 8] {
-    let mut m = [255u8; 8];
-    let mut i = 0;
-    while i < 8 {
-        m[i] = if i < n { out[i] } else { 255 };
-        i += 1;
-    }
-    m
 }
 
 // Are two answers and their buffers the same?

@@ -56,14 +56,9 @@ fn may_follow(before: u32, stage: u32) -> bool {
     stage <= 13
 }
 
-// What shorten answers to choices of which the last was for phase one or not, if it answers so to none.
-fn shorten_expects(shortened: u32, before: u32) -> u32 {
-    if before == 11 { shortened } else { 13 }
-}
-
-// What shorten answers to no joint where settle refuses it so.
-fn shorten_refuses(stage: u32) -> u32 {
-    if stage == 11 { 11 } else { 13 }
+// What shorten answers to choices that it answers so in phase one; 13 past it.
+fn in_phase_one(stage: u32, answer: u32) -> u32 {
+    if stage == 11 { answer } else { 13 }
 }
 
 // May settle so answer a byte, a joint or not? It refuses it as it refuses no joint, or takes a joint while it works.
@@ -153,9 +148,9 @@ fn try_place(case: Case, walk: Walk, lowest: bool) -> Walk {
     let stage = answer_to(case, broken, true);
     let ok = may_follow(walk.stage, stage);
     let one = noted(counts, case.round, true, stage, NO_JOINT, ok);
-    let expected = shorten_expects(case.shortened.number, walk.stage);
+    let expected = in_phase_one(walk.stage, case.shortened.number);
     let two = try_part(case, one, list, PART, expected);
-    let three = try_part(case, two, broken, PART_NO_JOINT, shorten_refuses(stage));
+    let three = try_part(case, two, broken, PART_NO_JOINT, in_phase_one(stage, 11));
     Walk {
         counts: try_lowest(case, three, list, lowest),
         list: list,
@@ -233,13 +228,12 @@ fn fit(end: u32, lists: u32, settled: u32, shortened: u32) -> bool {
 
 // Do the counts of a working come beside the refusal that the call answers?
 fn counts_fit(sheet: Sheet, list: Choices, whole: bool, answer: u32) -> bool {
-    let found = counts(sheet, list, whole);
-    found.number as u32 == refusal_of(answer)
-}
-
-// The number of the refusal that an answer is, 0 for none.
-fn refusal_of(answer: u32) -> u32 {
-    if answer < 100 { answer } else { 0 }
+    let number = counts(sheet, list, whole).number as u32;
+    if answer < 100 {
+        number == answer
+    } else {
+        number == 0
+    }
 }
 
 // A list of choices that may break the rules.

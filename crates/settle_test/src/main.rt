@@ -9,7 +9,6 @@ use answers::Answer;
 use answers::call;
 use answers::counts;
 use answers::is_same;
-use answers::partners;
 use answers::refused;
 use brute::Found;
 use brute::find_stable;
@@ -97,9 +96,9 @@ fn case_of(round: u32) -> Case {
 
 // Is a pairing super-stable?
 fn is_stable(sheet: Sheet, answer: Answer) -> bool {
-    let out = answer.out;
+    let pairing = answer.pairing;
     let bands = sheet.bands;
-    reference::is_stable(bands, partners(out, sheet.n))
+    reference::is_stable(bands, pairing)
 }
 
 // Is a pairing super-stable, and are shortened lists those of no choices?
@@ -137,25 +136,19 @@ fn place_of(settled: u32) -> usize {
     }
 }
 
-// A checksum of what it was and the first bytes of a buffer.
-fn checksum(sum: u32, out: [u8; 256], len: usize) -> u32
-    requires { ⌜ len ≤ 256 ⌝ }
-{
-    let mut s = sum % 65537;
-    let mut i = 0;
-    while i < len {
-        s = (31 * s + rows::long(out[i])) % 65537;
-        i += 1;
-    }
-    s
-}
-
+// The checksum at place k takes the first bytes of an answer's buffer in.
 fn add_checksum(counts: [u32; 40], k: usize, answer: Answer, len: usize) -> [u32; 40]
     requires { ⌜ (k < 40) × (len ≤ 256) ⌝ }
 {
     let mut sums = counts;
     let out = answer.out;
-    sums[k] = checksum(sums[k], out, len);
+    let mut sum = sums[k] % 65537;
+    let mut i = 0;
+    while i < len {
+        sum = (31 * sum + rows::long(out[i])) % 65537;
+        i += 1;
+    }
+    sums[k] = sum;
     sums
 }
 
@@ -268,15 +261,10 @@ fn lists_room(sheet: Sheet) -> usize {
     }
 }
 
-// Which joints the answer with no choices pairs.
-fn paired_set(case: Case) -> u32 {
-    let out = case.settled.out;
-    paired(partners(out, case.sheet.n))
-}
-
 // What the calls answer with no choices.
 fn compare_answers(case: Case, rows: &[[u8; 8]; 764], counts: [u32; 40]) -> [u32; 40] {
-    let set = paired_set(case);
+    let pairing = case.settled.pairing;
+    let set = paired(pairing);
     let bands = case.sheet.bands;
     let found = find_stable(bands, rows, set);
     let one = count_answers(case, counts, found);

@@ -1,6 +1,10 @@
 // Rows n and o of document 01.
+use crate::answers::Answer;
 use crate::answers::FILL;
+use crate::answers::answer_of;
+use crate::answers::call;
 use crate::answers::number_of;
+use crate::growing::none;
 use crate::places::ROWS;
 use reference::one;
 use samples::sheet_of;
@@ -40,44 +44,35 @@ pub fn long(byte: u8) -> u32
 }
 
 // Four numbers from place `at` on: what settle answers, what bytes 0 and 1 are then, and how many are 255.
-fn add_row(counts: [u32; 40], at: usize, number: u32, out: [u8; 256]) -> [u32; 40]
+fn add_row(counts: [u32; 40], at: usize, answer: Answer) -> [u32; 40]
     requires { ⌜ at ≤ 36 ⌝ }
 {
-    let one = add(counts, at, number);
+    let out = answer.out;
+    let one = add(counts, at, answer.number);
     let two = add(one, at + 1, long(out[0]));
     let three = add(two, at + 2, long(out[1]));
     add(three, at + 3, count_alone(out))
 }
 
-fn row(counts: [u32; 40], at: usize, sheet: &[u8]) -> [u32; 40]
-    requires { ⌜ at ≤ 36 ⌝ }
-{
-    let mut out = [FILL; 256];
-    let number = number_of(sheet, b"", true, &mut out);
-    add_row(counts, at, number, out)
-}
-
+// n joints with no entries.
 fn row_n(counts: [u32; 40], at: usize, n: usize) -> [u32; 40]
     requires { ⌜ (at ≤ 36) × (n ≤ 129) ⌝ }
 {
     let sheet = no_entries(n);
-    row(counts, at, &sheet[0..16 * n + 3])
+    let mut out = [FILL; 256];
+    let number = number_of(&sheet[0..16 * n + 3], b"", true, &mut out);
+    add_row(counts, at, answer_of(number, n, out))
 }
 
-// The bytes of row c with the bands that are given, and zeros after them.
-fn row_c(band: u8) -> [u8; 384] {
+// Two joints that list each other in this band.
+fn row_o(counts: [u32; 40], at: usize, band: u8) -> [u32; 40]
+    requires { ⌜ at ≤ 36 ⌝ }
+{
     let mut bands = [0u8; 64];
     bands[1] = band;
     bands[8] = band;
     let sheet = sheet_of(2, bands);
-    sheet.bytes
-}
-
-fn row_o(counts: [u32; 40], at: usize, band: u8) -> [u32; 40]
-    requires { ⌜ at ≤ 36 ⌝ }
-{
-    let sheet = row_c(band);
-    row(counts, at, &sheet[0..41])
+    add_row(counts, at, call(sheet, none(), true, 256))
 }
 
 pub fn rows(counts: [u32; 40]) -> [u32; 40] {
