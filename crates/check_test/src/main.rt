@@ -1,8 +1,8 @@
 // Tries check: row j of document 01, some refusals, and every vector of partner bytes for random sheets of up to 6 joints,
 // beside a reference written straight from the definition.
 use base::wide;
-use calls::checking::check;
 use blocking::Checked;
+use calls::checking::check;
 use reference::BLOCKED;
 use reference::STABLE;
 use reference::worth;

@@ -91,7 +91,8 @@ pub fn lists(sheet: &[u8], bands: &mut [[u8; 128]; 128]) -> Reading
     let Section::Read(_) = listed else {
         return Reading::Refused(sections::number(listed));
     };
-    let filled = fill(part, m);
+    let mut filled = [[0u8; 128]; 128];
+    fill(part, m, &mut filled);
     let unreturned = some_empty_across(part, &filled, m);
     if unreturned {
         return Reading::Refused(7);

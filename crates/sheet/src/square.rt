@@ -5,15 +5,15 @@ ghost use Prim.Native.Nat.{ℕ, _+_, _*_, _<_, _≤_};
 ghost use lib.ListN.{length};
 ghost use Rattle.base.specs.Below.{anyBelow};
 ghost use Rattle.sections.specs.Entries.{entryWidth, entryIn};
-ghost use Rattle.sheet.specs.Square.{squareUpTo, emptyAcross};
+ghost use Rattle.sheet.specs.Square.{blank, squareUpTo, emptyAcross};
 
-// Puts m entries, all below 128, into a square.
-pub(crate) fn fill(part: &[u8], m: usize) -> [[u8; 128]; 128]
+// Puts m entries, all below 128, into a blank square. It is lent, so that reading needs no square more on the stack.
+pub(crate) fn fill(part: &[u8], m: usize, bands: &mut [[u8; 128]; 128])
     requires { ⌜ (m < 65536) × (entryWidth * m ≤ length (now part)) ⌝ }
     requires { ⌜ ((j : ℕ) → j < m → (entryIn (now part) j .joint < 128) × (entryIn (now part) j .other < 128)) ⌝ }
-    ensures { λ r. ⌜ r ≡ squareUpTo m (now (part .entry)) ⌝ }
+    requires { ⌜ now bands ≡ blank ⌝ }
+    ensures { λ _. ⌜ now (bands .exit) ≡ squareUpTo m (now (part .entry)) ⌝ }
 {
-    let mut bands = [[0u8; 128]; 128];
     let mut j = 0;
     while j < m {
         let e = entry_in(part, j);
@@ -22,7 +22,6 @@ pub(crate) fn fill(part: &[u8], m: usize) -> [[u8; 128]; 128]
         bands[a][b] = e.band;
         j += 1;
     }
-    bands
 }
 
 // Is the place across from entry j empty?

@@ -1,5 +1,5 @@
 -- `lists` goes by the extents, the entries, and the places across in the filled square.
-use mathlib.Core.Path.{_≡_, sym, ap, _∙_}
+use mathlib.Core.Path.{_≡_, refl, sym, ap, _∙_}
 use mathlib.Core.List.{List}
 use Prim.Native.Nat.{ℕ, _*_, _-_, _<_, _≤_}
 use native.Mathlib.Omega.{arith}
@@ -10,6 +10,7 @@ use Rattle.sections.specs.Readings.{entriesReading}
 use Rattle.sections.proofs.SectionLaws.{section-read, section-refused}
 use Rattle.sections.proofs.EntryFaults.{entry-fits}
 use Rattle.sheet.specs.declared.Parts.{Parts}
+use Rattle.sheet.specs.declared.Reading.the-variants.{Accepted}
 use Rattle.sheet.specs.Format.{joints, rankCount, rankingsPart}
 use Rattle.sheet.specs.Refusals.{someUnreturned, extentsFault}
 use Rattle.sheet.specs.Square.{squareOf}
@@ -67,14 +68,14 @@ fits c =
     ((small k, omega arith), entry-fits _ _ _ (clean c) (lies k .few-joints))
 
 -- WHERE THE SQUARE IS FILLED
-filled-is : (c : tie.After-fill) → c .fill .result ≡ squareOf (sheet (c .before .before .before .before .before))
+filled-is : (c : tie.After-fill) → c .fill .last .1 .1 .0 ≡ squareOf (sheet (back (c .before .before)))
 filled-is c =
-    let k : tie.After-known-told = c .before .before .before .before .before in
+    let k : tie.After-known-told = back (c .before .before) in
     rw (← part-is k, ← read k .m-entries) (c .fill .ensures)
 
-seven-is : (c : tie.After-some-empty-across) → c .some-empty-across .result ≡ someUnreturned (sheet (back (c .before .before .before)))
+seven-is : (c : tie.After-some-empty-across) → c .some-empty-across .result ≡ someUnreturned (sheet (back (c .before .before .before .before)))
 seven-is c =
-    let told : tie.After-enum-told2 = c .before .before .before in
+    let told : tie.After-enum-told2 = c .before .before .before .before in
     let k : tie.After-known-told = back told in
     rw (← empty-unreturned _ _ _ (clean told) (lies k .few-joints), ← filled-is (c .before .before), ← part-is k, ← read k .m-entries)
     (c .some-empty-across .ensures)
@@ -126,26 +127,29 @@ returns-2 c =
 
 fill-requires : tie.Need-fill-requires
 fill-requires c κs =
-    let k : tie.After-known-told = c .before .before .before .before in
-    rw (part-is k, read k .m-entries) (fits c)
+    let k : tie.After-known-told = c .before .before .before .before .before in
+    let f = fits (c .before) in
+    rw (part-is k, read k .m-entries) (f .0, (f .1, refl))
 
 some-empty-across-requires : tie.Need-some-empty-across-requires
 some-empty-across-requires c κs =
-    let k : tie.After-known-told = c .before .before .before .before .before .before in
-    rw (part-is k, read k .m-entries) (fits (c .before .before))
+    let told : tie.After-enum-told2 = c .before .before .before in
+    let k : tie.After-known-told = told .before .before .before .before in
+    rw (part-is k, read k .m-entries) (fits told)
 
 returns-3 : tie.Need-returns-3
 returns-3 c =
-    let told : tie.After-enum-told2 = c .before .before .before .before in
+    let told : tie.After-enum-told2 = c .before .before .before .before .before in
     let k : tie.After-known-told = told .before .before .before .before in
     refused (sheet k) _ 7 (not-returned (sheet k) (read k .faultless) (clean told) (sym (seven-is (c .before)) ∙ c .if1 .taken)) (λ z. omega arith)
 
 returns-4 : tie.Need-returns-4
 returns-4 c =
-    let told : tie.After-enum-told2 = c .before .before .before .before in
+    let told : tie.After-enum-told2 = c .before .before .before .before .before in
     let k : tie.After-known-told = told .before .before .before .before in
     let none = faultless (sheet k) (read k .faultless) (clean told) (sym (seven-is (c .before)) ∙ c .if1 .left) in
-    rw (filled-is (c .before .before .before), read k .parts-are) (all-read (sheet k) _ none)
+    let all = all-read (sheet k) _ none in
+    (ap Accepted (read k .parts-are) ∙ all .0, filled-is (c .before .before .before) ∙ all .1)
 
 pub lists-spec : {M : Type 1} → statement M
 lists-spec =

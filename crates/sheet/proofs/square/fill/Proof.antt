@@ -1,5 +1,6 @@
+-- One more entry in its place.
 use Prim.Native.Nat.{_<_, _-_, _≤_}
-use mathlib.Core.Path.{_≡_, sym}
+use mathlib.Core.Path.{_≡_, sym, _∙_}
 use native.Mathlib.Omega.{arith}
 use Rattle.sheet.specs.Square.{squareUpTo}
 use Rattle.sheet.proofs.SquarePlaces.{square-zero, square-next}
@@ -13,10 +14,10 @@ abbrev μ-loop : tie.MeasureT-loop
 μ-loop part m bands₀ j₀ bands j = m - j
 
 below : (c : tie.After-entry-in Inv-loop μ-loop) → (c .entry-in .result .joint < 128) × (c .entry-in .result .other < 128)
-below c = rw (c .entry-in .ensures) (c .before .before .before .before .pre .1 _ (c .before .loop-test .taken))
+below c = rw (c .entry-in .ensures) (c .before .before .before .before .pre .1 .0 _ (c .before .loop-test .taken))
 
 loop-holds : tie.Need-loop-holds Inv-loop μ-loop
-loop-holds c = (omega arith, sym (square-zero _))
+loop-holds c = (omega arith, c .before .pre .1 .1 ∙ sym (square-zero _))
 
 entry-in-requires : tie.Need-entry-in-requires Inv-loop μ-loop
 entry-in-requires c κs = omega arith
