@@ -10,7 +10,8 @@ use calls::counting::count_working;
 use calls::settling::settle;
 use calls::shortening::shorten;
 use samples::Sheet;
-ghost use Prim.Native.Nat.{_≤_};
+use std::num::wrapping_add_u32;
+ghost use Prim.Native.Nat.{_<_, _≤_};
 
 pub const NONE_ONE: u32 = 101;
 
@@ -37,7 +38,7 @@ fn settled_number(answer: Settled) -> u32 {
                 Phase::One => NONE_ONE,
                 Phase::Two => NONE_TWO,
             },
-            End::Paired(count) => PAIRED + count % 256,
+            End::Paired(count) => wrapping_add_u32(PAIRED, count),
         },
         Settled::Refused(number) => number as u32,
     }
@@ -46,9 +47,15 @@ fn settled_number(answer: Settled) -> u32 {
 fn shortened_number(answer: Shortened) -> u32 {
     match answer {
         Shortened::None => NONE_ONE,
-        Shortened::Lists(count) => LISTS + count % 65536,
+        Shortened::Lists(count) => wrapping_add_u32(LISTS, count),
         Shortened::Refused(number) => number as u32,
     }
+}
+
+pub fn long(byte: u8) -> u32
+    ensures { λ r. ⌜ r < 256 ⌝ }
+{
+    byte as u32
 }
 
 fn least(x: usize, most: usize) -> usize
@@ -161,6 +168,15 @@ pub fn counts(sheet: Sheet, choices: Choices, whole: bool) -> Counts {
         least(choices.len, 64),
         whole,
     )
+}
+
+// Is the count of entries that an answer says the one that stands in its buffer?
+pub fn is_counted(answer: Answer) -> bool {
+    let out = answer.out;
+    if answer.number < LISTS {
+        return true;
+    }
+    answer.number - LISTS == long(out[0]) + 256 * long(out[1])
 }
 
 // Are two answers and their buffers the same?

@@ -8,7 +8,9 @@ mod rows;
 use answers::Answer;
 use answers::call;
 use answers::counts;
+use answers::is_counted;
 use answers::is_same;
+use answers::long;
 use answers::refused;
 use brute::Found;
 use brute::find_stable;
@@ -145,7 +147,7 @@ fn add_checksum(counts: [u32; 40], k: usize, answer: Answer, len: usize) -> [u32
     let mut sum = sums[k] % 65537;
     let mut i = 0;
     while i < len {
-        sum = (31 * sum + rows::long(out[i])) % 65537;
+        sum = (31 * sum + long(out[i])) % 65537;
         i += 1;
     }
     sums[k] = sum;
@@ -213,13 +215,19 @@ fn counts_fit(whole: Counts, part: Counts) -> bool {
     part.proposals == whole.proposals
 }
 
-// The counts of the two workings with no choices.
+// The counts of the two workings with no choices, and of the entries that shorten writes.
 fn compare_counts(case: Case, sums: [u32; 40]) -> [u32; 40] {
     let whole = counts(case.sheet, none(), true);
     let part = counts(case.sheet, none(), false);
     let one = add(sums, places::PROPOSALS, whole.proposals);
     let two = add(one, places::CUTS, whole.cuts);
-    compare(two, places::COUNTS, case.round, counts_fit(whole, part))
+    let three = compare(two, places::COUNTS, case.round, counts_fit(whole, part));
+    compare(
+        three,
+        places::ENTRIES,
+        case.round,
+        is_counted(case.shortened),
+    )
 }
 
 // A buffer of `room` bytes, for which an answer is expected.

@@ -36,7 +36,8 @@ pub const PAIRINGS: usize = 38;
 
 pub const SHORTENED: usize = 39;
 
-// With no choices: the end, the verdict, the phase; the pairing, which joints are paired, the count of pairs; the counts.
+// With no choices: the end, the verdict, the phase; the pairing, which joints are paired, the count of pairs; the counts of
+// the workings, and of shortened lists.
 pub const END: u32 = 1;
 
 pub const VERDICT: u32 = 2;
@@ -51,24 +52,26 @@ pub const PAIRS: u32 = 6;
 
 pub const COUNTS: u32 = 7;
 
+pub const ENTRIES: u32 = 8;
+
 // Buffers as long as they must be, and a byte too short.
-pub const ROOM: u32 = 8;
+pub const ROOM: u32 = 9;
 
 // A list that grows: settle on it and one more byte, on no joint after it; shorten on it, on no joint after it; the lowest joints; its end.
-pub const CHOICES: u32 = 9;
+pub const CHOICES: u32 = 10;
 
-pub const NO_JOINT: u32 = 10;
+pub const NO_JOINT: u32 = 11;
 
-pub const PART: u32 = 11;
+pub const PART: u32 = 12;
 
-pub const PART_NO_JOINT: u32 = 12;
+pub const PART_NO_JOINT: u32 = 13;
 
-pub const LOWEST: u32 = 13;
+pub const LOWEST: u32 = 14;
 
-pub const LAST: u32 = 14;
+pub const LAST: u32 = 15;
 
 // Settle and shorten on a list drawn.
-pub const DRAWN: u32 = 15;
+pub const DRAWN: u32 = 16;
 
 // Where an answer is counted, after the place of those within the rules.
 fn slot(answer: u32) -> usize

@@ -3,13 +3,14 @@ use crate::answers::Answer;
 use crate::answers::FILL;
 use crate::answers::answer_of;
 use crate::answers::call;
+use crate::answers::long;
 use crate::answers::number_of;
 use crate::growing::none;
 use crate::places::ROWS;
 use reference::one;
 use samples::sheet_of;
 use tally::add;
-ghost use Prim.Native.Nat.{_<_, _≤_};
+ghost use Prim.Native.Nat.{_≤_};
 
 // A sheet of n joints with no entries, and zeros after it. Labels are 0a, 0b and so on.
 fn no_entries(n: usize) -> [u8; 2080]
@@ -35,12 +36,6 @@ fn count_alone(out: [u8; 256]) -> u32 {
         i += 1;
     }
     count
-}
-
-pub fn long(byte: u8) -> u32
-    ensures { λ r. ⌜ r < 256 ⌝ }
-{
-    byte as u32
 }
 
 // Four numbers from place `at` on: what settle answers, what bytes 0 and 1 are then, and how many are 255.
