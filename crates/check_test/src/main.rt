@@ -31,80 +31,26 @@ const OFFERED: [[u8; 6]; 7] = [
     [4, 2, 255, 0, 255, 0],
 ];
 
-// The bands of row g.
-const ROW_G: [u8; 64] = [
-    0,
-    1,
-    0,
-    2,
-    0,
-    0,
-    0,
-    0,
-    2,
-    0,
-    1,
-    0,
-    0,
-    0,
-    0,
-    0,
-    0,
-    2,
-    0,
-    1,
-    0,
-    0,
-    0,
-    0,
-    1,
-    0,
-    2,
-    0,
-    0,
-    0,
-    0,
-    0,
-    0,
-    0,
-    0,
-    0,
-    0,
-    0,
-    0,
-    0,
-    0,
-    0,
-    0,
-    0,
-    0,
-    0,
-    0,
-    0,
-    0,
-    0,
-    0,
-    0,
-    0,
-    0,
-    0,
-    0,
-    0,
-    0,
-    0,
-    0,
-    0,
-    0,
-    0,
-    0,
-];
-
 // Where the answers to the pairings offered stand, then how many vectors held, were refused, were blocked, and how many sheets there were.
 const ANSWERS: usize = 2;
 
 const ENDS: usize = 10;
 
 const SHEETS: usize = 13;
+
+// The bands of row g: 0: 1 3; 1: 2 0; 2: 3 1; 3: 0 2. The band of b on a's list stands at 8 × a + b.
+fn row_g_bands() -> [u8; 64] {
+    let mut bands = [0u8; 64];
+    bands[1] = 1;
+    bands[3] = 2;
+    bands[10] = 1;
+    bands[8] = 2;
+    bands[19] = 1;
+    bands[17] = 2;
+    bands[24] = 1;
+    bands[26] = 2;
+    bands
+}
 
 // An answer as the reference gives it.
 fn number_of(answer: Checked) -> u32 {
@@ -250,7 +196,7 @@ fn try_offered(sheet: &[u8], counts: [u32; 40]) -> [u32; 40] {
 }
 
 fn row_g() -> [u8; 384] {
-    let sheet = sheet_of(4, ROW_G);
+    let sheet = sheet_of(4, row_g_bands());
     sheet.bytes
 }
 
