@@ -1,8 +1,8 @@
 // The calls as C has them (include/mirror.h), a module for each: a slice is a pointer and a size, an answer one number.
-pub mod check;
-pub mod counts;
-pub mod settle;
-pub mod shorten;
+pub mod checking;
+pub mod counting;
+pub mod settling;
+pub mod shortening;
 pub mod version;
 
 // What a verdict and a count weigh in a number of 32 bits, beside the refusal's.

@@ -2,8 +2,8 @@ use mathlib.Core.Path.{sym, ap, _∙_}
 use Rattle.pairing.specs.CCodes.{shortenedCode}
 use Rattle.pairing.proofs.LawsCCodes.{shorten-count-small}
 use borrow.Author.Needs.{needs}
-use Rattle.pairing.proofs.shorten.mirror_shorten.Statement.{statement}
-use Rattle.pairing.proofs.shorten.mirror_shorten.Tie as tie
+use Rattle.pairing.proofs.shortening.mirror_shorten.Statement.{statement}
+use Rattle.pairing.proofs.shortening.mirror_shorten.Tie as tie
 
 shorten-requires : tie.Need-shorten-requires
 shorten-requires c κs = search needs

@@ -2,8 +2,8 @@ use mathlib.Core.Path.{sym, ap, _∙_}
 use borrow.Author.Needs.{needs}
 use Rattle.pairing.specs.CCodes.{settledCode}
 use Rattle.pairing.proofs.LawsCCodes.{settle-count-small}
-use Rattle.pairing.proofs.settle.mirror_settle.Statement.{statement}
-use Rattle.pairing.proofs.settle.mirror_settle.Tie as tie
+use Rattle.pairing.proofs.settling.mirror_settle.Statement.{statement}
+use Rattle.pairing.proofs.settling.mirror_settle.Tie as tie
 
 settle-requires : tie.Need-settle-requires
 settle-requires c κs = search needs

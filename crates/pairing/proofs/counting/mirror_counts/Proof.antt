@@ -2,8 +2,8 @@ use mathlib.Core.Path.{ap, _∙_}
 use Rattle.pairing.specs.CCodes.{countsCode}
 use Rattle.pairing.proofs.LawsCCodes.{proposals-small}
 use borrow.Author.Needs.{needs}
-use Rattle.pairing.proofs.counts.mirror_counts.Statement.{statement}
-use Rattle.pairing.proofs.counts.mirror_counts.Tie as tie
+use Rattle.pairing.proofs.counting.mirror_counts.Statement.{statement}
+use Rattle.pairing.proofs.counting.mirror_counts.Tie as tie
 
 count-working-requires : tie.Need-count-working-requires
 count-working-requires c κs = search needs

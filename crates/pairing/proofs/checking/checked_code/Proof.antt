@@ -2,8 +2,8 @@ use mathlib.Core.Path.{ap}
 use native.Mathlib.Omega.{arith}
 use Rattle.pairing.specs.CCodes.{checkedCode}
 use borrow.Author.Needs.{needs}
-use Rattle.pairing.proofs.check.checked_code.Statement.{statement}
-use Rattle.pairing.proofs.check.checked_code.Tie as tie
+use Rattle.pairing.proofs.checking.checked_code.Statement.{statement}
+use Rattle.pairing.proofs.checking.checked_code.Tie as tie
 
 enum-known-answer : tie.Need-enum-known-answer
 enum-known-answer c = search needs

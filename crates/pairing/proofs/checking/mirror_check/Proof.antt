@@ -2,8 +2,8 @@ use mathlib.Core.Path.{sym, ap, _∙_}
 use Rattle.pairing.specs.CCodes.{checkedCode}
 use Rattle.pairing.proofs.LawsCCodes.{check-pair-small}
 use borrow.Author.Needs.{needs}
-use Rattle.pairing.proofs.check.mirror_check.Statement.{statement}
-use Rattle.pairing.proofs.check.mirror_check.Tie as tie
+use Rattle.pairing.proofs.checking.mirror_check.Statement.{statement}
+use Rattle.pairing.proofs.checking.mirror_check.Tie as tie
 
 check-requires : tie.Need-check-requires
 check-requires c κs = search needs

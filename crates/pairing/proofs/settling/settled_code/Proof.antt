@@ -5,8 +5,8 @@ use Rattle.pairing.specs.CCodes.{settledCode}
 use Rattle.calls.specs.declared.End.the-variants as E
 use Rattle.calls.specs.declared.Settled.the-variants as S
 use borrow.Author.Needs.{needs}
-use Rattle.pairing.proofs.settle.settled_code.Statement.{statement}
-use Rattle.pairing.proofs.settle.settled_code.Tie as tie
+use Rattle.pairing.proofs.settling.settled_code.Statement.{statement}
+use Rattle.pairing.proofs.settling.settled_code.Tie as tie
 
 enum-known-answer : tie.Need-enum-known-answer
 enum-known-answer c = search needs
