@@ -76,11 +76,6 @@ module _ (s : List ℕ) {r : Reading} (answer : r ≡ readingOf s) where
       let filled = left ∙ square-filled s old (known .faultless) in
       record { read = known; square = filled; promise = rw (filled, known .n-joints) (accepted-square s (known .faultless)) }
 
-  -- a refused one: its number, and the square as it was
+  -- a refused one: its number
   pub lists-refused : {k : ℕ} → r ≡ Refused k → (sheetFault s ≡ k) × (1 ≤ k)
   lists-refused {k} told = read-refused s k (sym answer ∙ told)
-
-  pub lists-kept : (old : List (List ℕ)) {t : List (List ℕ)} {k : ℕ} → t ≡ squareIn s old → r ≡ Refused k → t ≡ old
-  lists-kept old {t} {k} left told =
-      let (e, some) = lists-refused told in
-      left ∙ square-kept s old k e (λ z. omega arith)
