@@ -1,6 +1,6 @@
 -- Laws of `joined`.
 use mathlib.Core.Path.{_≡_, refl, ap₂, _∙_}
-use mathlib.Core.List.{List, [], _∷_, _++_}
+use mathlib.Core.List.{List, [], _∷_, _++_, append-assoc}
 use Prim.Native.Nat.{ℕ, zero, suc, _+_, _≤_, _<_}
 use native.Mathlib.Numerals.{add-one}
 use native.Mathlib.Omega.{arith}
@@ -28,6 +28,27 @@ pub joined-same : (n : ℕ) (f g : ℕ → List ℕ) → ((i : ℕ) → i < n �
 unfolding joined
 joined-same zero f g h = refl
 joined-same (suc i) f g h = ap₂ _++_ (joined-same i f g (λ j l. h j (omega arith))) (h i (omega arith))
+
+-- none of the parts has anything
+pub joined-empty : (n : ℕ) (f : ℕ → List ℕ) → ((i : ℕ) → i < n → f i ≡ []) → joined n f ≡ []
+unfolding joined
+joined-empty zero f none = refl
+joined-empty (suc i) f none = rw (joined-empty i f (λ j l. none j (omega arith)), none i (omega arith))
+
+-- f has x in front of what g has, at p, and nothing before that
+pub record Front (f g : ℕ → List ℕ) (p : ℕ) (x : List ℕ) : Type 0 where
+  pub none-f : (i : ℕ) → i < p → f i ≡ []
+  pub none-g : (i : ℕ) → i < p → g i ≡ []
+  pub here : f p ≡ x ++ g p
+  pub same : (i : ℕ) → p < i → f i ≡ g i
+
+pub joined-front : {f g : ℕ → List ℕ} {p : ℕ} {x : List ℕ} → Front f g p x → (n : ℕ) → p < n → joined n f ≡ x ++ joined n g
+unfolding joined
+joined-front w zero l = absurd (omega arith)
+joined-front {f} {g} {p} {x} w (suc i) l =
+    case (below-suc l)
+    (λ e. rw (← e, joined-empty p f (w .none-f), joined-empty p g (w .none-g)) (w .here))
+    (λ m. ap₂ _++_ (joined-front w i m) (w .same i m) ∙ append-assoc x (joined i g) (g i))
 
 -- part i lies within the whole
 pub joined-within : (n : ℕ) (part : ℕ → List ℕ) (i : ℕ) → i < n → length (joined i part) + length (part i) ≤ length (joined n part)

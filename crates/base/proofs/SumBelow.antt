@@ -121,6 +121,12 @@ sum-raise-two n f g p q d lp lq ne h up vp =
     (λ lt. raise-below n f g p q d lt lq h up vp)
     (λ ge. raise-below n f g q p d (omega arith) lp h vp up)
 
+-- a sum by its first number and the rest
+pub sum-first : (n : ℕ) (f : ℕ → ℕ) → sumBelow (suc n) f ≡ f 0 + sumBelow n (λ i. f (suc i))
+unfolding sumBelow
+sum-first zero f = omega arith
+sum-first (suc n) f = omega (arith, sum-first n f)
+
 -- the sum over the places below the diagonal
 unfoldable pub halfSum : ℕ → (ℕ → ℕ → ℕ) → ℕ
 halfSum n x = sumBelow n (λ a. sumBelow a (x a))

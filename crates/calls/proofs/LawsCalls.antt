@@ -1,14 +1,15 @@
 -- The calls' answers and buffers, one law for each way that the code takes.
 use mathlib.Core.Path.{_≡_, refl, sym, ap, _∙_}
-use mathlib.Core.Bool.{Bool, true, false}
+use mathlib.Core.Bool.{Bool, true, false, not, cond}
+use mathlib.Core.Option.{Option}
 use mathlib.Core.List.{List, _∷_, _++_}
 use Prim.Native.Nat.{ℕ, zero, suc, _+_, _*_, _≤_, _<_}
 use native.Mathlib.Omega.{arith}
 use native.Mathlib.Nat.{mul-le-mul}
-use lib.ListN.{length, take, drop}
+use lib.ListN.{length, take}
 use lib.Seq.{take-at}
 use borrow.Author.Tests.{lt-ltb, le-ltb}
-use Rattle.base.specs.Faults.{firstFault}
+use Rattle.base.specs.Faults.{when, firstFault}
 use Rattle.base.proofs.Faults.{fault-stops, fault-passes, last-fault}
 use Rattle.sheet.specs.Format.{joints, rankCount}
 use Rattle.sheet.specs.Refusals.{sheetFault}
@@ -16,29 +17,32 @@ use Rattle.sheet.specs.Square.{squareOf, SquarePromise}
 use Rattle.sheet.specs.declared.Parts.{Parts}
 use Rattle.sheet.proofs.ReadAs.{ReadAs, ListsAs}
 use Rattle.blocking.specs.declared.Checked.{Checked}
-use Rattle.blocking.specs.Answers.{offerOf}
+use Rattle.blocking.specs.declared.Checked.the-variants as C
+use Rattle.blocking.specs.Blocking.{blockingPair}
+use Rattle.blocking.specs.Answers.{verdictOf, offerOf}
+use Rattle.matching.specs.Matchings.{isMatching}
 use Rattle.roommates.specs.Lists.{Square}
-use Rattle.roommates.specs.Working.{settles, shortens, pairingOf, entryCount, listBytes}
+use Rattle.roommates.specs.declared.Stage.{Stage}
+use Rattle.roommates.specs.Moves.{Outcome, worked, settles, shortens}
+use Rattle.roommates.specs.Left.{pairingOf, entryCount, listBytes}
 use Rattle.matching.proofs.PairCounts.{paired-few}
 use Rattle.matching.specs.Matchings.{pairCount}
 use Rattle.roommates.proofs.Sound.{promise-sound}
-use Rattle.roommates.proofs.EntryCounts.{entries-bound}
+use Rattle.roommates.proofs.EntryCounts.{entries-bound, entries-kept}
 use Rattle.roommates.proofs.EntriesListed.{all-listed}
-use Rattle.roommates.proofs.Workings.{settles-proposals, shortens-proposals, settles-cuts, shortens-cuts, shortens-entries}
+use Rattle.roommates.proofs.Arrivals.{worked-arrives}
+use Rattle.roommates.proofs.WorkingsEnd.{arrived-shrunk, arrived-few}
 use Rattle.roommates.proofs.PairsWritten.{pairing-length}
-use Rattle.roommates.proofs.EntriesWritten.{bytes-length}
-use Rattle.cuts.specs.Codes.{verdictNumber}
-use Rattle.steering.specs.Workings.{workOf, WorkedAs}
+use Rattle.stages.specs.declared.Place.{Place}
+use Rattle.stages.specs.Places.{outcomeAt}
 use Rattle.calls.specs.declared.Settled.{Settled}
 use Rattle.calls.specs.declared.Shortened.{Shortened}
 use Rattle.calls.specs.declared.Counts.{Counts}
-use Rattle.calls.specs.Checks.{checkOf}
-use Rattle.calls.specs.Calls.{Says, settleSays, shortenSays, onSheet, settleCall, shortenCall, settledAs, shortenedAs, settledBy, shortenedBy, leftBy, counts, endCounts, countsAs, countsOf}
-use Rattle.calls.proofs.CheckKeeps.{check-accepted}
+use Rattle.calls.specs.Checks.{checkFaults, checkedAs, checkOf}
+use Rattle.calls.specs.Calls.{Says, settleSays, shortenSays, onSheet, settleCall, shortenCall, endedAs, listedAs}
+use Rattle.calls.specs.Calls.{settledBy, shortenedBy, resultOver, leftBy, counts, endCounts, countsAs, countsOf}
 use Rattle.sheet.proofs.Sizes.{accepted-sizes}
-use Rattle.calls.proofs.Answers.{settled-refused, shortened-refused, unwritten, unpaired-unwritten, is-paired, not-paired}
-use Rattle.roommates.specs.PhaseTwo as W
-use Rattle.calls.specs.declared.End.the-variants as E
+use Rattle.calls.proofs.Answers.{settled-refused, shortened-refused, unwritten}
 use Rattle.calls.specs.declared.Settled.the-variants as S
 use Rattle.calls.specs.declared.Shortened.the-variants as L
 
@@ -56,13 +60,6 @@ module _ (c : Says) (out : List ℕ) where
 
     pub so-short : 1 ≤ k → ShortenedSo (L.Refused k) out
     so-short h = rw e (sym (shortened-refused k (c .verdict) (c .count) h), sym (unwritten k (c .verdict) (c .bytes) out h))
-
-  module _ (e : firstFault (c .faults) ≡ 0) where
-    pub so-unpaired : {r : Settled} → verdictNumber (c .verdict) < 3 → r ≡ settledAs 0 (c .verdict) (c .count) → SettledSo r out
-    so-unpaired few h = rw e (h, sym (unpaired-unwritten 0 (c .verdict) (c .bytes) out (not-paired _ few)))
-
-    pub so-unlisted : {r : Shortened} → verdictNumber (c .verdict) < 3 → r ≡ shortenedAs 0 (c .verdict) (c .count) → ShortenedSo r out
-    so-unlisted few h = rw e (h, sym (unpaired-unwritten 0 (c .verdict) (c .bytes) out (not-paired _ few)))
 
 -- WHERE THE CALL STANDS among its refusals, given the working: 9, then the choices' own
 module _ (n : ℕ) (t : Square) (cs : List ℕ) (room : ℕ) where
@@ -86,27 +83,19 @@ module _ (n : ℕ) (t : Square) (cs out : List ℕ) where
   pub settled-short : length out < n → SettledSo settling out (S.Refused 9) out
   settled-short h = so-refused settling out (settle-nine n t cs (length out) h) (omega arith)
 
-  module _ {r v p c : ℕ} {u : Square} (w : WorkedAs r v u p c (workOf true n t cs)) (long : n ≤ length out) where
-    choice : firstFault (settling .faults) ≡ r
-    unfolding workOf
-    choice = settle-choice n t cs (length out) long ∙ w .refusal
+  module _ (g : Place) {u : Square} (w : outcomeAt u g ≡ settles n t cs) (long : n ≤ length out) where
+    choice : firstFault (settling .faults) ≡ g .refusal
+    choice = settle-choice n t cs (length out) long ∙ sym (ap (λ (o : Outcome). o .refusal) w)
 
-    verdict : verdictNumber (settling .verdict) ≡ v
-    unfolding workOf
-    verdict = w .verdict
-
-    pub settled-choice : 1 ≤ r → SettledSo settling out (S.Refused r) out
+    pub settled-choice : 1 ≤ g .refusal → SettledSo settling out (S.Refused (g .refusal)) out
     settled-choice h = so-refused settling out choice h
 
-    module _ (none : r ≡ 0) where
-      pub settled-unpaired : {x : Settled} → v < 3 → ((y : W.Verdict) (k : ℕ) → verdictNumber y ≡ v → x ≡ settledAs 0 y k) → SettledSo settling out x out
-      settled-unpaired h f = so-unpaired settling out (choice ∙ none) (rw verdict h) (f (settling .verdict) (settling .count) verdict)
-
-      pub settled-pairing : 3 ≤ v → SettledSo settling out (S.Ended (E.Paired (pairCount (pairingOf n u)))) (pairingOf n u ++ drop n out)
-      unfolding workOf
-      settled-pairing h =
-          let b : settles n t cs .verdict ≡ W.paired = is-paired _ (rw verdict h) in
-          rw (choice, none, b, w .lists) (refl, ap (λ (l : ℕ). pairingOf n u ++ drop l out) (sym (pairing-length n u)))
+    pub settled-at : (v : Stage) → g .refusal ≡ 0 → g .stage ≡ v
+        → SettledSo settling out (endedAs v (pairCount (pairingOf n u))) (resultOver v (pairingOf n u) out)
+    settled-at v none h =
+        let verdict : settles n t cs .work-is .stage ≡ v = sym (ap (λ (o : Outcome). o .work-is .stage) w) ∙ h in
+        let lists : settles n t cs .work-is .lists ≡ u = sym (ap (λ (o : Outcome). o .work-is .lists) w) in
+        rw (choice, none, verdict, lists) (refl, refl)
 
 -- SHORTEN, over n joints' lists with m entries
 module _ (n m : ℕ) (t : Square) (cs out : List ℕ) where
@@ -116,28 +105,19 @@ module _ (n m : ℕ) (t : Square) (cs out : List ℕ) where
   pub shortened-short : length out < 2 + 3 * m → ShortenedSo shortening out (L.Refused 9) out
   shortened-short h = so-short shortening out (shorten-nine n t cs (length out) m h) (omega arith)
 
-  module _ {r v p c : ℕ} {u : Square} (w : WorkedAs r v u p c (workOf false n t cs)) (long : 2 + 3 * m ≤ length out) where
-    choice′ : firstFault (shortening .faults) ≡ r
-    unfolding workOf
-    choice′ = shorten-choice n t cs (length out) m long ∙ w .refusal
+  module _ (g : Place) {u : Square} (w : outcomeAt u g ≡ shortens n t cs) (long : 2 + 3 * m ≤ length out) where
+    choice′ : firstFault (shortening .faults) ≡ g .refusal
+    choice′ = shorten-choice n t cs (length out) m long ∙ sym (ap (λ (o : Outcome). o .refusal) w)
 
-    verdict′ : verdictNumber (shortening .verdict) ≡ v
-    unfolding workOf
-    verdict′ = w .verdict
-
-    pub shortened-choice : 1 ≤ r → ShortenedSo shortening out (L.Refused r) out
+    pub shortened-choice : 1 ≤ g .refusal → ShortenedSo shortening out (L.Refused (g .refusal)) out
     shortened-choice h = so-short shortening out choice′ h
 
-    module _ (none : r ≡ 0) where
-      pub shortened-unlisted : {x : Shortened} → v < 3 → ((y : W.Verdict) (k : ℕ) → verdictNumber y ≡ v → x ≡ shortenedAs 0 y k)
-          → ShortenedSo shortening out x out
-      shortened-unlisted h f = so-unlisted shortening out (choice′ ∙ none) (rw verdict′ h) (f (shortening .verdict) (shortening .count) verdict′)
-
-      pub shortened-listing : 3 ≤ v → ShortenedSo shortening out (L.Lists (entryCount n u)) (listBytes n u ++ drop (2 + 3 * entryCount n u) out)
-      unfolding workOf
-      shortened-listing h =
-          let b : shortens n t cs .verdict ≡ W.paired = is-paired _ (rw verdict′ h) in
-          rw (choice′, none, b, w .lists) (refl, ap (λ (l : ℕ). listBytes n u ++ drop l out) (sym (bytes-length n u)))
+    pub shortened-at : (v : Stage) → g .refusal ≡ 0 → g .stage ≡ v
+        → ShortenedSo shortening out (listedAs v (entryCount n u)) (resultOver v (listBytes n u) out)
+    shortened-at v none h =
+        let verdict : shortens n t cs .work-is .stage ≡ v = sym (ap (λ (o : Outcome). o .work-is .stage) w) ∙ h in
+        let lists : shortens n t cs .work-is .lists ≡ u = sym (ap (λ (o : Outcome). o .work-is .lists) w) in
+        rw (choice′, none, verdict, lists) (refl, refl)
 
 -- OVER A SHEET: its own refusal, or what its joints and lists give
 pub sheet-refused : (s later : List ℕ) {k : ℕ} → (sheetFault s ≡ k) × (1 ≤ k) → firstFault (sheetFault s ∷ later) ≡ k
@@ -151,13 +131,13 @@ module _ (s : List ℕ) (c : Says) where
   shortened-accepted out f h = rw (fault-passes (sheetFault s) (c .faults) f) h
 
 -- THE COUNTS
-counts-or : (f : ℕ) (e : W.End) → 1 ≤ f → countsAs f e ≡ counts f 0 0
+counts-or : (f : ℕ) (e : Outcome) → 1 ≤ f → countsAs f e ≡ counts f 0 0
 counts-or zero e h = absurd (omega arith)
 counts-or (suc f) e h = refl
 
 module _ (whole : Bool) (s cs : List ℕ) where
-  abbrev end : W.End
-  end = workOf whole (joints s) (squareOf s) cs
+  abbrev end : Outcome
+  end = worked whole (joints s) (squareOf s) cs
 
   pub counts-refused : {k : ℕ} → (sheetFault s ≡ k) × (1 ≤ k) → counts k 0 0 ≡ countsOf whole s cs
   counts-refused {k} h = rw (last-fault (sheetFault s), h .0) (sym (counts-or k end (h .1)))
@@ -165,8 +145,25 @@ module _ (whole : Bool) (s cs : List ℕ) where
   pub counts-accepted : sheetFault s ≡ 0 → {r : Counts} → r ≡ endCounts end → r ≡ countsOf whole s cs
   counts-accepted f h = rw (last-fault (sheetFault s), f) h
 
-pub counts-are : {r v p c : ℕ} {u : Square} {e : W.End} → WorkedAs r v u p c e → counts r p c ≡ endCounts e
-counts-are w = rw (w .refusal, w .proposals, w .cuts)
+-- CHECK: a refused sheet's number, or what the offered pairing is worth
+checked-stops : (k : ℕ) (o : Option ℕ) → 1 ≤ k → checkedAs k o ≡ C.Refused k
+checked-stops zero o h = absurd (omega arith)
+checked-stops (suc k) o h = refl
+
+pub check-refused : (s m : List ℕ) {k : ℕ} → (sheetFault s ≡ k) × (1 ≤ k) → C.Refused k ≡ checkOf s m
+check-refused s m {k} h =
+    let e : firstFault (checkFaults s m) ≡ k = fault-stops (sheetFault s) _ (λ z. omega (arith, h .0, h .1)) ∙ h .0 in
+    rw e (sym (checked-stops k _ (h .1)))
+
+offer-is : (b : Bool) (o : Option ℕ) → cond b (verdictOf o) (C.Refused 10) ≡ checkedAs (when (not b) 10) o
+offer-is true o = refl
+offer-is false o = refl
+
+pub check-accepted : (s m : List ℕ) {answer : Checked} → sheetFault s ≡ 0 → answer ≡ offerOf (joints s) (squareOf s) m → answer ≡ checkOf s m
+unfolding offerOf
+check-accepted s m f h =
+    let e : firstFault (checkFaults s m) ≡ when (not (isMatching (joints s) (squareOf s) m)) 10 = fault-passes (sheetFault s) _ f ∙ last-fault _ in
+    rw e (h ∙ offer-is (isMatching (joints s) (squareOf s) m) (blockingPair (joints s) (squareOf s) m))
 
 -- .. as the front door opened it: with its parts, and the square t filled
 module _ (s : List ℕ) (parts : Parts) (t : Square) (known : ListsAs s parts t) where
@@ -188,7 +185,7 @@ module _ (s : List ℕ) (parts : Parts) (t : Square) (known : ListsAs s parts t)
       shortened-accepted s (shortening (joints s) (rankCount s) (squareOf s) cs out) out (read .faultless)
       (rw (known .square, read .n-joints, read .m-entries) at h)
 
-  pub counts-read : (whole : Bool) (cs : List ℕ) {r : Counts} → r ≡ endCounts (workOf whole (parts .joints) t cs) → r ≡ countsOf whole s cs
+  pub counts-read : (whole : Bool) (cs : List ℕ) {r : Counts} → r ≡ endCounts (worked whole (parts .joints) t cs) → r ≡ countsOf whole s cs
   counts-read whole cs h = counts-accepted whole s cs (read .faultless) (rw (known .square, read .n-joints) at h)
 
   pub check-read : (m : List ℕ) {r : Checked} → r ≡ offerOf (parts .joints) t m → r ≡ checkOf s m
@@ -207,24 +204,17 @@ pairs-few n few u =
 
 -- both counts fit a u32, refused choices included
 pub work-few : (whole : Bool) (n : ℕ) (t : Square) → SquarePromise n t → (cs : List ℕ)
-    → (workOf whole n t cs .work-is .proposals ≤ 16384) × (workOf whole n t cs .work-is .cuts ≤ 16384)
-unfolding workOf
-work-few true n t promise cs =
-    let s = promise-sound promise in
+    → (worked whole n t cs .work-is .proposals ≤ 16384) × (worked whole n t cs .work-is .cuts ≤ 16384)
+work-few whole n t promise cs =
     let k = mul-le-mul (promise .few-joints) (promise .few-joints) in
-    let p = settles-proposals n t s cs in
-    let c = settles-cuts n t s cs in
+    let few = arrived-few (promise-sound promise) (worked-arrives {whole = whole} cs) in
+    let few0 = few .0 in
+    let few1 = few .1 in
     let e = entries-bound n t in
-    (omega arith, omega arith)
-work-few false n t promise cs =
-    let s = promise-sound promise in
-    let k = mul-le-mul (promise .few-joints) (promise .few-joints) in
-    let p = shortens-proposals n t s cs in
-    let c = shortens-cuts n t s cs in
     (omega arith, omega arith)
 
 -- the lists that shorten's working leaves have no more entries than there were
-pub left-fits : (n : ℕ) (t : Square) (cs : List ℕ) {r v p c : ℕ} {u : Square} → SquarePromise n t → WorkedAs r v u p c (workOf false n t cs)
-    → entryCount n u ≤ entryCount n t
-unfolding workOf
-left-fits n t cs promise w = rw (← w .lists) (shortens-entries n t (promise-sound promise) cs)
+pub left-fits : (n : ℕ) (t : Square) (cs : List ℕ) → SquarePromise n t → entryCount n (shortens n t cs .work-is .lists) ≤ entryCount n t
+left-fits n t cs promise =
+    let k = arrived-shrunk (promise-sound promise) (worked-arrives {whole = false} cs) in
+    entries-kept n t (shortens n t cs .work-is .lists) (k .below)

@@ -10,23 +10,24 @@ use Rattle.sheet.specs.Refusals.{sheetFault}
 use Rattle.sheet.specs.Square.{squareOf}
 use Rattle.writing.specs.Written.{over}
 use Rattle.roommates.specs.Lists.{Square}
-use Rattle.roommates.specs.Working.{settles, shortens, pairingOf, entryCount, listBytes}
+use Rattle.roommates.specs.Moves.{Outcome, worked, settles, shortens}
+use Rattle.roommates.specs.Left.{pairingOf, entryCount, listBytes}
+use Rattle.roommates.specs.declared.Stage.{Stage}
+use Rattle.roommates.specs.declared.Stage.the-variants.{Proposing, Cutting, NoneOne, NoneTwo, Paired}
 use Rattle.matching.specs.Matchings.{pairCount}
-use Rattle.steering.specs.Workings.{workOf}
 use Rattle.calls.specs.declared.Settled.{Settled}
 use Rattle.calls.specs.declared.Shortened.{Shortened}
 use Rattle.calls.specs.declared.Counts.{Counts}
-use Rattle.roommates.specs.PhaseTwo as W
 use Rattle.calls.specs.declared.Phase.the-variants as P
 use Rattle.calls.specs.declared.End.the-variants as E
 use Rattle.calls.specs.declared.Settled.the-variants as S
 use Rattle.calls.specs.declared.Shortened.the-variants as L
 
--- WHAT A CALL SAYS: its refusals in their order (0 for one that does not apply), the verdict of its working, the count beside a
--- result, and the result's bytes.
+-- WHAT A CALL SAYS: its refusals in their order (0 for one that does not apply), the stage of its working, which is its verdict where
+-- it has ended, the count beside a result, and the result's bytes.
 pub record Says : Type 0 where
   pub faults : List ℕ
-  pub verdict : W.Verdict
+  pub verdict : Stage
   pub count : ℕ
   pub bytes : List ℕ
 
@@ -38,7 +39,7 @@ partnersOf n t cs = pairingOf n (settles n t cs .work-is .lists)
 abbrev pub settleSays : ℕ → Square → List ℕ → ℕ → Says
 settleSays n t cs room = record {
   faults = when (ltb room n) 9 ∷ (settles n t cs .refusal ∷ []);
-  verdict = settles n t cs .verdict;
+  verdict = settles n t cs .work-is .stage;
   count = pairCount (partnersOf n t cs);
   bytes = partnersOf n t cs;
 }
@@ -51,7 +52,7 @@ leftOf n t cs = shortens n t cs .work-is .lists
 abbrev pub shortenSays : ℕ → ℕ → Square → List ℕ → ℕ → Says
 shortenSays n m t cs room = record {
   faults = when (ltb room (2 + 3 * m)) 9 ∷ (shortens n t cs .refusal ∷ []);
-  verdict = shortens n t cs .verdict;
+  verdict = shortens n t cs .work-is .stage;
   count = entryCount n (leftOf n t cs);
   bytes = listBytes n (leftOf n t cs);
 }
@@ -66,25 +67,30 @@ settleCall s cs out = onSheet s (settleSays (joints s) (squareOf s) cs (length o
 abbrev pub shortenCall : List ℕ → List ℕ → List ℕ → Says
 shortenCall s cs out = onSheet s (shortenSays (joints s) (rankCount s) (squareOf s) cs (length out))
 
--- THE ANSWER, by the first refusal (0 for none), the verdict and the count. A working is `going` only where a choice was refused.
-abbrev pub settledAs : ℕ → W.Verdict → ℕ → Settled
-settledAs fault W.going count = S.Refused fault
-settledAs zero W.none-one count = S.Ended (E.None P.One)
-settledAs zero W.none-two count = S.Ended (E.None P.Two)
-settledAs zero W.paired count = S.Ended (E.Paired count)
-settledAs (suc k) W.none-one count = S.Refused (suc k)
-settledAs (suc k) W.none-two count = S.Refused (suc k)
-settledAs (suc k) W.paired count = S.Refused (suc k)
+-- THE ANSWER, by the first refusal (0 for none), the verdict and the count. A working that was not refused has ended, so the answer to one
+-- that goes on is never given.
+abbrev pub endedAs : Stage → ℕ → Settled
+endedAs Proposing count = S.Refused 0
+endedAs Cutting count = S.Refused 0
+endedAs NoneOne count = S.Ended (E.None P.One)
+endedAs NoneTwo count = S.Ended (E.None P.Two)
+endedAs Paired count = S.Ended (E.Paired count)
+
+abbrev pub settledAs : ℕ → Stage → ℕ → Settled
+settledAs zero verdict count = endedAs verdict count
+settledAs (suc k) verdict count = S.Refused (suc k)
 
 -- shorten's none is always in phase one
-abbrev pub shortenedAs : ℕ → W.Verdict → ℕ → Shortened
-shortenedAs fault W.going count = L.Refused fault
-shortenedAs zero W.none-one count = L.None
-shortenedAs zero W.none-two count = L.None
-shortenedAs zero W.paired count = L.Lists count
-shortenedAs (suc k) W.none-one count = L.Refused (suc k)
-shortenedAs (suc k) W.none-two count = L.Refused (suc k)
-shortenedAs (suc k) W.paired count = L.Refused (suc k)
+abbrev pub listedAs : Stage → ℕ → Shortened
+listedAs Proposing count = L.Refused 0
+listedAs Cutting count = L.Refused 0
+listedAs NoneOne count = L.None
+listedAs NoneTwo count = L.None
+listedAs Paired count = L.Lists count
+
+abbrev pub shortenedAs : ℕ → Stage → ℕ → Shortened
+shortenedAs zero verdict count = listedAs verdict count
+shortenedAs (suc k) verdict count = L.Refused (suc k)
 
 abbrev pub settledBy : Says → Settled
 settledBy c = settledAs (firstFault (c .faults)) (c .verdict) (c .count)
@@ -92,13 +98,27 @@ settledBy c = settledAs (firstFault (c .faults)) (c .verdict) (c .count)
 abbrev pub shortenedBy : Says → Shortened
 shortenedBy c = shortenedAs (firstFault (c .faults)) (c .verdict) (c .count)
 
+-- the number of an answer's refusal, 0 where nothing is refused
+abbrev pub settledNumber : Settled → ℕ
+settledNumber (S.Ended e) = 0
+settledNumber (S.Refused k) = k
+
+abbrev pub shortenedNumber : Shortened → ℕ
+shortenedNumber L.None = 0
+shortenedNumber (L.Lists k) = 0
+shortenedNumber (L.Refused k) = k
+
 -- THE BUFFER after the call: only a result is written
-abbrev pub leftAs : ℕ → W.Verdict → List ℕ → List ℕ → List ℕ
-leftAs fault W.going bytes out = out
-leftAs fault W.none-one bytes out = out
-leftAs fault W.none-two bytes out = out
-leftAs zero W.paired bytes out = over bytes out
-leftAs (suc k) W.paired bytes out = out
+abbrev pub resultOver : Stage → List ℕ → List ℕ → List ℕ
+resultOver Proposing bytes out = out
+resultOver Cutting bytes out = out
+resultOver NoneOne bytes out = out
+resultOver NoneTwo bytes out = out
+resultOver Paired bytes out = over bytes out
+
+abbrev pub leftAs : ℕ → Stage → List ℕ → List ℕ → List ℕ
+leftAs zero verdict bytes out = resultOver verdict bytes out
+leftAs (suc k) verdict bytes out = out
 
 abbrev pub leftBy : Says → List ℕ → List ℕ
 leftBy c out = leftAs (firstFault (c .faults)) (c .verdict) (c .bytes) out
@@ -120,12 +140,12 @@ shortenBytes s cs out = leftBy (shortenCall s cs out) out
 abbrev pub counts : ℕ → ℕ → ℕ → Counts
 counts number made cut = record { number = number; proposals = made; cuts = cut }
 
-abbrev pub endCounts : W.End → Counts
+abbrev pub endCounts : Outcome → Counts
 endCounts e = counts (e .refusal) (e .work-is .proposals) (e .work-is .cuts)
 
-abbrev pub countsAs : ℕ → W.End → Counts
+abbrev pub countsAs : ℕ → Outcome → Counts
 countsAs zero e = endCounts e
 countsAs (suc k) e = counts (suc k) 0 0
 
 abbrev pub countsOf : Bool → List ℕ → List ℕ → Counts
-countsOf whole s cs = countsAs (firstFault (sheetFault s ∷ [])) (workOf whole (joints s) (squareOf s) cs)
+countsOf whole s cs = countsAs (firstFault (sheetFault s ∷ [])) (worked whole (joints s) (squareOf s) cs)

@@ -1,5 +1,3 @@
--- What the calls answer for every input; what a caller may conclude; the starred rows.
+-- What the calls answer for every input.
 pub mod Checks
 pub mod Calls
-pub mod Claims
-pub mod Rows

@@ -4,31 +4,19 @@ use sheet::Reading;
 use steering::working;
 ghost use mathlib.Core.Path.{_≡_};
 ghost use Rattle.sheet.specs.Square.{SquarePromise};
-ghost use Rattle.steering.specs.Workings.{workOf};
+ghost use Rattle.roommates.specs.Moves.{worked};
 ghost use Rattle.calls.specs.Calls.{endCounts, countsOf};
 
 fn count_lists(n: usize, bands: [[u8; 128]; 128], choices: &[u8], whole: bool) -> Counts
     requires { ⌜ SquarePromise n bands ⌝ }
-    ensures { λ r. ⌜ r ≡ endCounts (workOf whole n bands (now (choices .entry))) ⌝ }
+    ensures { λ r. ⌜ r ≡ endCounts (worked whole n bands (now (choices .entry))) ⌝ }
 {
-    let mut refusal: u8 = 0;
-    let mut verdict: u8 = 0;
-    let mut proposals: usize = 0;
-    let mut cuts: usize = 0;
-    working(
-        n,
-        bands,
-        choices,
-        whole,
-        &mut refusal,
-        &mut verdict,
-        &mut proposals,
-        &mut cuts,
-    );
+    let mut left = [[0u8; 128]; 128];
+    let end = working(n, bands, choices, whole, &mut left);
     Counts {
-        number: refusal,
-        proposals: proposals as u32,
-        cuts: cuts as u32,
+        number: end.refusal,
+        proposals: end.proposals as u32,
+        cuts: end.cuts as u32,
     }
 }
 

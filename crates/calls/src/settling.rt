@@ -4,60 +4,50 @@ use crate::Phase;
 use crate::Settled;
 use matching::count_pairs;
 use results::write_partners;
+use roommates::Stage;
 use sheet::Reading;
 use steering::working;
 ghost use mathlib.Core.Path.{_≡_};
-ghost use Prim.Native.Nat.{ℕ, _≤_, _<_};
+ghost use Prim.Native.Nat.{_≤_};
 ghost use lib.ListN.{length};
-ghost use Rattle.roommates.specs.PhaseTwo.{Verdict};
-ghost use Rattle.cuts.specs.Codes.{verdictNumber};
-ghost use Rattle.calls.specs.Calls.{settleSays, settledAs, settledBy, leftBy, settleAnswer, settleBytes};
+ghost use Rattle.sheet.specs.Square.{SquarePromise};
+ghost use Rattle.writing.specs.Written.{over};
+ghost use Rattle.matching.specs.Matchings.{pairCount};
+ghost use Rattle.roommates.specs.Left.{pairingOf};
+ghost use Rattle.calls.specs.Calls.{settleSays, settledBy, leftBy, settleAnswer, settleBytes};
 
-// The answer to a working without a pairing, by its verdict's number.
-fn unpaired(verdict: u8) -> Settled
-    requires { ⌜ verdict < 3 ⌝ }
-    ensures { λ r. ⌜ ((v : Verdict) (k : ℕ) → verdictNumber v ≡ verdict → r ≡ settledAs 0 v k) ⌝ }
+// The pairing where a working ended goes to the first n bytes; its count of pairs.
+fn write_pairing(n: usize, lists: &[[u8; 128]; 128], out: &mut [u8]) -> u32
+    requires { ⌜ (n ≤ 128) × (n ≤ length (now out)) ⌝ }
+    ensures { λ r. ⌜ r ≡ pairCount (pairingOf n (now (lists .entry))) ⌝ }
+    ensures { λ r. ⌜ now (out .exit) ≡ over (pairingOf n (now (lists .entry))) (now (out .entry)) ⌝ }
 {
-    if verdict == 1 {
-        return Settled::Ended(End::None(Phase::One));
-    }
-    if verdict == 2 {
-        return Settled::Ended(End::None(Phase::Two));
-    }
-    Settled::Refused(0)
+    write_partners(n, lists, out);
+    count_pairs(&out[..n]) as u32
 }
 
 // Settles n joints' lists: a refusal, none with its phase, or a pairing, whose partner bytes begin the buffer.
 pub fn settle_lists(n: usize, bands: [[u8; 128]; 128], choices: &[u8], out: &mut [u8]) -> Settled
-    requires { ⌜ n ≤ 128 ⌝ }
+    requires { ⌜ SquarePromise n bands ⌝ }
     ensures { λ r. ⌜ r ≡ settledBy (settleSays n bands (now (choices .entry)) (length (now (out .entry)))) ⌝ }
     ensures { λ r. ⌜ now (out .exit) ≡ leftBy (settleSays n bands (now (choices .entry)) (length (now (out .entry)))) (now (out .entry)) ⌝ }
 {
     if out.len() < n {
         return Settled::Refused(9);
     }
-    let mut refusal: u8 = 0;
-    let mut verdict: u8 = 0;
-    let mut proposals: usize = 0;
-    let mut cuts: usize = 0;
-    let lists = working(
-        n,
-        bands,
-        choices,
-        true,
-        &mut refusal,
-        &mut verdict,
-        &mut proposals,
-        &mut cuts,
-    );
-    if 1 <= refusal {
-        return Settled::Refused(refusal);
+    let mut left = [[0u8; 128]; 128];
+    let end = working(n, bands, choices, true, &mut left);
+    if 1 <= end.refusal {
+        return Settled::Refused(end.refusal);
     }
-    if verdict < 3 {
-        return unpaired(verdict);
+    let stage = end.stage;
+    match stage {
+        Stage::NoneOne => Settled::Ended(End::None(Phase::One)),
+        Stage::NoneTwo => Settled::Ended(End::None(Phase::Two)),
+        Stage::Paired => Settled::Ended(End::Paired(write_pairing(n, &left, out))),
+        Stage::Proposing => Settled::Refused(0),
+        Stage::Cutting => Settled::Refused(0),
     }
-    write_partners(n, &lists, out);
-    Settled::Ended(End::Paired(count_pairs(&out[..n]) as u32))
 }
 
 // Settles a sheet: a refusal, none with its phase, or a pairing, whose partner bytes begin the buffer.

@@ -1,27 +1,15 @@
 // The call shorten.
 use crate::Shortened;
 use results::write_lists;
+use roommates::Stage;
 use sheet::Reading;
 use steering::working;
 ghost use mathlib.Core.Path.{_≡_};
-ghost use Prim.Native.Nat.{ℕ, _≤_, _<_};
+ghost use Prim.Native.Nat.{_≤_, _<_};
 ghost use lib.ListN.{length};
 ghost use Rattle.sheet.specs.Square.{SquarePromise};
-ghost use Rattle.roommates.specs.PhaseTwo.{Verdict};
-ghost use Rattle.cuts.specs.Codes.{verdictNumber};
-ghost use Rattle.roommates.specs.Working.{entryCount};
-ghost use Rattle.calls.specs.Calls.{shortenSays, shortenedAs, shortenedBy, leftBy, shortenAnswer, shortenBytes};
-
-// The answer to a working without lists, by its verdict's number.
-fn unlisted(verdict: u8) -> Shortened
-    requires { ⌜ verdict < 3 ⌝ }
-    ensures { λ r. ⌜ ((v : Verdict) (k : ℕ) → verdictNumber v ≡ verdict → r ≡ shortenedAs 0 v k) ⌝ }
-{
-    if verdict == 0 {
-        return Shortened::Refused(0);
-    }
-    Shortened::None
-}
+ghost use Rattle.roommates.specs.Left.{entryCount};
+ghost use Rattle.calls.specs.Calls.{shortenSays, shortenedBy, leftBy, shortenAnswer, shortenBytes};
 
 // Shortens n joints' lists with m entries: a refusal, none, or the lists at phase one's end, in sheet form from the buffer's start on.
 pub fn shorten_lists(
@@ -38,27 +26,19 @@ pub fn shorten_lists(
     if out.len() < 2 + 3 * m {
         return Shortened::Refused(9);
     }
-    let mut refusal: u8 = 0;
-    let mut verdict: u8 = 0;
-    let mut proposals: usize = 0;
-    let mut cuts: usize = 0;
-    let lists = working(
-        n,
-        bands,
-        choices,
-        false,
-        &mut refusal,
-        &mut verdict,
-        &mut proposals,
-        &mut cuts,
-    );
-    if 1 <= refusal {
-        return Shortened::Refused(refusal);
+    let mut left = [[0u8; 128]; 128];
+    let end = working(n, bands, choices, false, &mut left);
+    if 1 <= end.refusal {
+        return Shortened::Refused(end.refusal);
     }
-    if verdict < 3 {
-        return unlisted(verdict);
+    let stage = end.stage;
+    match stage {
+        Stage::NoneOne => Shortened::None,
+        Stage::NoneTwo => Shortened::None,
+        Stage::Paired => Shortened::Lists(write_lists(n, &left, out) as u32),
+        Stage::Proposing => Shortened::Refused(0),
+        Stage::Cutting => Shortened::Refused(0),
     }
-    Shortened::Lists(write_lists(n, &lists, out) as u32)
 }
 
 // Shortens a sheet's lists: a refusal, none, or the lists at phase one's end, in sheet form from the buffer's start on.

@@ -18,7 +18,8 @@ use Rattle.sheet.specs.declared.Parts.{Parts}
 use Rattle.sheet.proofs.ReadAs.{ListsAs}
 use Rattle.sheet.proofs.Accepted.{accepted}
 use Rattle.roommates.specs.Lists.{Square, row, listLength}
-use Rattle.roommates.specs.Working.{partnerOn, pairingOf, settles}
+use Rattle.roommates.specs.Left.{partnerOn, pairingOf}
+use Rattle.roommates.specs.Moves.{settles}
 use Rattle.roommates.proofs.PairsWritten.{partner-none, partner-some, pairing-length, pairing-at}
 use Rattle.matching.specs.Matchings.{partner, isAlone}
 use Rattle.calls.specs.declared.Phase.{Phase}
@@ -26,7 +27,7 @@ use Rattle.calls.specs.declared.End.the-variants as E
 use Rattle.calls.specs.declared.Settled.{Settled}
 use Rattle.calls.specs.declared.Settled.the-variants as S
 use Rattle.calls.specs.Calls.{settleSays, leftBy, partnersOf, settleAnswer}
-use Rattle.calls.proofs.Answers.{settled-refused, pairing-written}
+use Rattle.calls.proofs.Answers.{pairing-written}
 use Rattle.writing.specs.Written.{Wrote, over}
 use Rattle.writing.proofs.Writings.{front-wrote}
 use Rattle.writing.proofs.Decimals.{number-line-short}
@@ -84,7 +85,7 @@ text-is-settles s = go (sheetFault s) refl
   where
     go : (f : ℕ) → sheetFault s ≡ f → textOr f s ≡ answerText (labelOf s) (partnersOf (joints s) (squareOf s) []) (settleAnswer s [] buffer)
     go zero e = rw (fault-passes (sheetFault s) _ e)
-    go (suc k) e = rw (fault-stops (sheetFault s) _ (λ z. omega arith), e, settled-refused (suc k) _ _ (omega arith))
+    go (suc k) e = rw (fault-stops (sheetFault s) _ (λ z. omega arith), e) refl
 
 pub text-accepted : (s : List ℕ) → sheetFault s ≡ 0 → sheetText s ≡ listsText (labelOf s) (joints s) (squareOf s)
 unfolding sheetText

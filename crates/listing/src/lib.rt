@@ -12,6 +12,7 @@ use writing::write_number_line;
 ghost use mathlib.Core.Path.{_≡_};
 ghost use Prim.Native.Nat.{_≤_};
 ghost use lib.ListN.{length};
+ghost use Rattle.sheet.specs.Square.{SquarePromise};
 ghost use Rattle.sections.specs.Labels.{labelAt};
 ghost use Rattle.writing.specs.Written.{Wrote, over};
 ghost use Rattle.listing.specs.Text.{Labelled, Listable, pairingText, noneText, refusedText};
@@ -72,6 +73,7 @@ fn list_lists(
 ) -> usize
     requires { ⌜ Labelled (now sheet) labels rankings n ⌝ }
     requires { ⌜ 4400 ≤ length (now out) ⌝ }
+    requires { ⌜ SquarePromise n bands ⌝ }
     ensures { λ r. ⌜ Wrote (now (out .entry)) 0 (listsText (labelAt (now (sheet .entry)) labels) n bands) (now (out .exit)) r ⌝ }
 {
     let mut partners = [0u8; 128];

@@ -12,8 +12,8 @@ use Rattle.calls.specs.declared.Settled.the-variants as S
 use Rattle.calls.specs.declared.Shortened.the-variants as L
 use Rattle.calls.specs.Checks.{checkOf}
 use Rattle.calls.specs.Calls.{settleAnswer, shortenAnswer, countsOf}
-use Rattle.calls.proofs.CallsKeep.{calls-keep}
-use Rattle.calls.proofs.CheckKeeps.{check-keeps}
+use Rattle.promises.proofs.CallsKeep.{calls-keep}
+use Rattle.promises.proofs.CheckKeeps.{check-keeps}
 
 pub settle-count-small : (s cs out : List ℕ) (k : ℕ) → settleAnswer s cs out ≡ S.Ended (E.Paired k) → k < 65536
 settle-count-small s cs out k e = omega (arith, calls-keep s .settle-paired cs out k e .at-most)

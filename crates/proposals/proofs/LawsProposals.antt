@@ -6,6 +6,7 @@ use native.Mathlib.Numerals.{add-one}
 use lib.ListN.{getD, set}
 use borrow.Author.Tests.{le-leb, lt-leb, eq-eqb, ne-eqb}
 use Rattle.sheet.specs.Square.{at}
+use Rattle.roommates.specs.declared.Stage.{Stage}
 use Rattle.roommates.specs.Lists.{Square, row, bestBand, bandSize, strikeWorse, strikeBand}
 use Rattle.roommates.specs.PhaseOne.{standingAt, proposed, proposeAll, receiveAll, work, step}
 
@@ -38,8 +39,8 @@ module _ (i : ℕ) (l : List ℕ) (k : ℕ) (g : List ℕ) {r : List ℕ} where
   receive-miss e h = rw (add-one i, ← e, ne-eqb _ _ h)
 
 -- what a step changes, each by itself
-pub one-step : (n : ℕ) (t : Square) (r g : List ℕ) (m p : ℕ) {k : ℕ} {t′ : Square} {g′ : List ℕ} {m′ : ℕ} → k ≡ bestBand n (row t p)
+pub one-step : (n : ℕ) (s : Stage) (t : Square) (r g a : List ℕ) (m c p : ℕ) {k : ℕ} {t′ : Square} {g′ : List ℕ} {m′ : ℕ} → k ≡ bestBand n (row t p)
     → t′ ≡ proposeAll n n (row t p) k (set r p k) t p → g′ ≡ receiveAll n (row t p) k g → m′ ≡ m + bandSize n k (row t p)
-    → work t′ (set r p k) g′ m′ 0 ≡ step n (work t r g m 0) p
+    → work s t′ (set r p k) g′ a m′ c ≡ step n (work s t r g a m c) p
 unfolding step
-one-step n t r g m p ek et eg em = rw (et, eg, em, ek)
+one-step n s t r g a m c p ek et eg em = rw (et, eg, em, ek)

@@ -1,6 +1,5 @@
 // Phase one, over the square of bands: each function is an equation with a definition of the crate roommates. For the crates
 // above, which prove what they require.
-use choices::chosen;
 use lists::rows::band_size;
 use lists::rows::best_band;
 use lists::rows::list_length;
@@ -15,7 +14,8 @@ ghost use Prim.Native.Nat.{ℕ, _+_, _≤_, _<_, _^_};
 ghost use lib.Dec.{eqb, ltb};
 ghost use lib.ListN.{getD};
 ghost use Rattle.roommates.specs.Lists.{listLength, row};
-ghost use Rattle.roommates.specs.PhaseOne.{work, ran, listWaits, proposed, proposeAll, receiveAll, step, phaseOne, someEmptied};
+ghost use Rattle.roommates.specs.declared.Stage.{Stage};
+ghost use Rattle.roommates.specs.PhaseOne.{work, fresh, listWaits, proposed, proposeAll, receiveAll, step, phaseOne, someEmptied};
 
 // p proposes to q
 fn propose(n: usize, reach: &[u8; 128], bands: &mut [[u8; 128]; 128], p: usize, q: usize)
@@ -63,8 +63,8 @@ fn receive_all(n: usize, list: &[u8; 128], k: u8, received: &mut [u8; 128])
     }
 }
 
-// p's step. The list is copied, since striking changes it.
-fn step(
+// p's step, whatever else the working is. The list is copied, since striking changes it.
+pub fn step(
     n: usize,
     bands: &mut [[u8; 128]; 128],
     reach: &mut [u8; 128],
@@ -73,19 +73,20 @@ fn step(
     p: usize,
 )
     requires { ⌜ (n ≤ 128) × ((p < 128) × (now proposals < 2 ^ 63)) ⌝ }
-    ensures { λ _. ⌜ work (now (bands .exit)) (now (reach .exit)) (now (received .exit)) (now (proposals .exit)) 0
-        ≡ step n (work (now (bands .entry)) (now (reach .entry)) (now (received .entry)) (now (proposals .entry)) 0) p ⌝ }
+    ensures { λ _. ⌜ ((s : Stage) (aside : List ℕ) (c : ℕ) → work s (now (bands .exit)) (now (reach .exit)) (now (received .exit)) aside (now (proposals .exit)) c
+        ≡ step n (work s (now (bands .entry)) (now (reach .entry)) (now (received .entry)) aside (now (proposals .entry)) c) p) ⌝ }
 {
     let list = bands[p];
     let k = best_band(n, &list);
     reach[p] = k;
     propose_all(n, &list, k, reach, bands, p);
     receive_all(n, &list, k, received);
-    *proposals += base::wide(band_size(n, k, &list));
+    let reached = band_size(n, k, &list);
+    *proposals += base::wide(reached);
 }
 
 // is p a joint that waits?
-fn may_step(n: usize, bands: &[[u8; 128]; 128], reach: &[u8; 128], p: usize) -> bool
+pub fn may_step(n: usize, bands: &[[u8; 128]; 128], reach: &[u8; 128], p: usize) -> bool
     requires { ⌜ n ≤ 128 ⌝ }
     ensures { λ r. ⌜ r ≡ (ltb p n && listWaits n (getD (now (reach .entry)) p 0) (row (now (bands .entry)) p)) ⌝ }
 {
@@ -95,40 +96,24 @@ fn may_step(n: usize, bands: &[[u8; 128]; 128], reach: &[u8; 128], p: usize) -> 
     list_waits(n, reach[p], &bands[p])
 }
 
-// Phase one, by the choices and then by the lowest joint that waits: the lists, and how it stopped.
-pub fn phase_one(
-    n: usize,
-    bands: [[u8; 128]; 128],
-    reach: &mut [u8; 128],
-    received: &mut [u8; 128],
-    proposals: &mut usize,
-    choices: &[u8],
-    refusal: &mut u8,
-    done: &mut bool,
-    used: &mut usize,
-) -> [[u8; 128]; 128]
-    requires { ⌜ (n ≤ 128) × (now proposals ≤ 65536) ⌝ }
-    ensures { λ r. ⌜ ran (now (refusal .exit)) (now (done .exit)) (work r (now (reach .exit)) (now (received .exit)) (now (proposals .exit)) 0) (now (used .exit))
-        ≡ phaseOne n (work bands (now (reach .entry)) (now (received .entry)) (now (proposals .entry)) 0) (now (choices .entry)) ⌝ }
+// The lists that phase one leaves without choices: the lowest joint that waits steps, until nobody does.
+pub fn run_out(n: usize, bands: [[u8; 128]; 128]) -> [[u8; 128]; 128]
+    requires { ⌜ n ≤ 128 ⌝ }
+    ensures { λ r. ⌜ r ≡ phaseOne n (fresh bands) .lists ⌝ }
 {
     let mut lists = bands;
+    let mut reach = [0u8; 128];
+    let mut received = [0u8; 128];
+    let mut proposals = 0;
     let turns = n * n + 1;
-    *refusal = 0;
-    *done = false;
-    *used = 0;
-    while *used < turns {
-        let low = lowest_waiting(n, &lists, reach);
-        if low == n {
-            *done = true;
+    let mut i = 0;
+    while i < turns {
+        let p = lowest_waiting(n, &lists, &reach);
+        if p == n {
             return lists;
         }
-        let p = chosen(choices, *used, low);
-        if !may_step(n, &lists, reach, p) {
-            *refusal = 11;
-            return lists;
-        }
-        step(n, &mut lists, reach, received, proposals, p);
-        *used += 1;
+        step(n, &mut lists, &mut reach, &mut received, &mut proposals, p);
+        i += 1;
     }
     lists
 }
@@ -147,7 +132,7 @@ fn emptied(n: usize, got: u8, row: &[u8; 128]) -> bool
 // none in phase one: some joint received and has an empty list
 pub fn some_emptied(n: usize, bands: &[[u8; 128]; 128], received: &[u8; 128]) -> bool
     requires { ⌜ n ≤ 128 ⌝ }
-    ensures { λ r. ⌜ ((reach : List ℕ) (m c : ℕ) → r ≡ someEmptied n (work (now (bands .entry)) reach (now (received .entry)) m c)) ⌝ }
+    ensures { λ r. ⌜ ((s : Stage) (reach aside : List ℕ) (m c : ℕ) → r ≡ someEmptied n (work s (now (bands .entry)) reach (now (received .entry)) aside m c)) ⌝ }
 {
     let mut found = false;
     let mut i = 0;

@@ -8,7 +8,7 @@ use Rattle.base.proofs.Tests.{listed, unlisted}
 use Rattle.roommates.specs.Lists.{Square}
 use Rattle.writing.specs.Written.{Wrote}
 use Rattle.writing.proofs.Writings.{front-wrote}
-use Rattle.roommates.specs.Working.{entry, entries, entryCount, listBytes}
+use Rattle.roommates.specs.Left.{entry, entries, entryCount, listBytes}
 use Rattle.roommates.proofs.EntriesWritten.{bytes-length}
 
 module _ (a : ℕ) (l : List ℕ) (b : ℕ) where

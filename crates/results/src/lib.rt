@@ -9,7 +9,7 @@ ghost use lib.ListN.{length, drop};
 ghost use Rattle.base.specs.Below.{lowest};
 ghost use Rattle.writing.specs.Written.{Wrote};
 ghost use Rattle.roommates.specs.Lists.{isListed};
-ghost use Rattle.roommates.specs.Working.{partnerOn, pairingOf, entry, rowEntries, entries, entryCount, listBytes};
+ghost use Rattle.roommates.specs.Left.{partnerOn, pairingOf, entry, rowEntries, entries, entryCount, listBytes};
 
 // the lowest joint on a list
 fn first_listed(n: usize, row: &[u8; 128]) -> usize

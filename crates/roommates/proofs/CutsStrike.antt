@@ -2,7 +2,7 @@
 use mathlib.Core.Path.{_≡_, refl}
 use mathlib.Core.Bool.{Bool, true, false, cond}
 use mathlib.Core.Logic.{_⊎_, inl, inr, _≢_}
-use mathlib.Core.List.{List, []}
+use mathlib.Core.List.{List}
 use Prim.Native.Nat.{ℕ, _+_, _≤_, _<_}
 use native.Mathlib.Omega.{arith}
 use lib.ListN.{getD}
@@ -13,13 +13,13 @@ use Rattle.roommates.specs.Lists.{Square, row, listLength, worstBand, fi
 use Rattle.roommates.specs.PhaseOne.{fresh, fuel}
 use Rattle.roommates.specs.PhaseTwo.{trialStart, trial, noneEmptied, kept, neither, cutAt, longer}
 use Rattle.roommates.specs.Runs.{Cuts, uncut, cut-then}
-use Rattle.roommates.specs.Working.{entryCount}
+use Rattle.roommates.specs.Left.{entryCount}
 use Rattle.roommates.proofs.Rows.{some-listed, listed-some, worst-most, worst-attained}
 use Rattle.roommates.proofs.FirstOn.{first-best}
 use Rattle.roommates.proofs.Sound.{Sound, Shrunk, shrunk-refl, shrunk-trans, shrunk-sound}
 use Rattle.roommates.proofs.Trims.{strike-band-shrunk, trial-trim}
 use Rattle.roommates.proofs.States.{fresh-steady}
-use Rattle.roommates.proofs.Running.{run-shrunk, phase-one-stops}
+use Rattle.roommates.proofs.Running.{run-shrunk, runs-out}
 use Rattle.roommates.proofs.EntryCounts.{entries-struck}
 
 module _ {n : ℕ} {t : Square} (s : Sound n t) (v : ℕ) where
@@ -28,7 +28,7 @@ module _ {n : ℕ} {t : Square} (s : Sound n t) (v : ℕ) where
 
   pub trial-after : Shrunk (trialStart n t v) (trial n t v)
   unfolding trial
-  trial-after = run-shrunk (phase-one-stops (fuel n) n (fresh (trialStart n t v)) [] 0 .run) (fresh-steady start-sound)
+  trial-after = run-shrunk (runs-out (fuel n) n (fresh (trialStart n t v)) .run) (fresh-steady start-sound)
 
   pub trial-shrunk : Shrunk t (trial n t v)
   trial-shrunk = shrunk-trans (strike-band-shrunk s v (worstBand n (row t v))) trial-after
@@ -72,18 +72,18 @@ choose false true f g u e = inr (cc, refl)
 choose false false f g u e = absurd (let z : _≡_ {A = ℕ} 0 1 = cc in omega arith)
 
 -- the trial at v left no list empty but those set aside
-abbrev pub passes : ℕ → Square → Square → ℕ → Bool
-passes n one t v = noneEmptied n one (trial n t v)
+abbrev pub passes : ℕ → List ℕ → Square → ℕ → Bool
+passes n aside t v = noneEmptied n aside (trial n t v)
 
-pub cut-neither : (n : ℕ) (one t : Square) (x : ℕ) → cutAt n one t x ≡ neither
-    → (passes n one t (firstOn n (row t x)) ≡ false) × (passes n one t x ≡ false)
+pub cut-neither : (n : ℕ) (aside : List ℕ) (t : Square) (x : ℕ) → cutAt n aside t x ≡ neither
+    → (passes n aside t (firstOn n (row t x)) ≡ false) × (passes n aside t x ≡ false)
 unfolding cutAt
-cut-neither n one t x e = choose-neither (passes n one t (firstOn n (row t x))) (passes n one t x) _ _ e
+cut-neither n aside t x e = choose-neither (passes n aside t (firstOn n (row t x))) (passes n aside t x) _ _ e
 
-pub cut-trial : (n : ℕ) (one t : Square) (x : ℕ) (u : Square) → cutAt n one t x ≡ kept u
-    → ((u ≡ trial n t (firstOn n (row t x))) × (passes n one t (firstOn n (row t x)) ≡ true)) ⊎ ((u ≡ trial n t x) × (passes n one t x ≡ true))
+pub cut-trial : (n : ℕ) (aside : List ℕ) (t : Square) (x : ℕ) (u : Square) → cutAt n aside t x ≡ kept u
+    → ((u ≡ trial n t (firstOn n (row t x))) × (passes n aside t (firstOn n (row t x)) ≡ true)) ⊎ ((u ≡ trial n t x) × (passes n aside t x ≡ true))
 unfolding cutAt
-cut-trial n one t x u e = choose (passes n one t (firstOn n (row t x))) (passes n one t x) _ _ u e
+cut-trial n aside t x u e = choose (passes n aside t (firstOn n (row t x))) (passes n aside t x) _ _ u e
 
 -- What a kept cut leaves.
 pub record CutTo (n : ℕ) (t u : Square) : Type 0 where
@@ -93,19 +93,19 @@ pub record CutTo (n : ℕ) (t u : Square) : Type 0 where
 pub trial-cut : {n : ℕ} {t : Square} → Sound n t → (v : ℕ) → v < n → 0 < listLength n (row t v) → CutTo n t (trial n t v)
 trial-cut s v lv some = record { shrunk = trial-shrunk s v; less = trial-strikes s v lv some }
 
-pub cut-to : {n : ℕ} {t u : Square} → Sound n t → (one : Square) (x : ℕ) → x < n → longer n t x ≡ true → cutAt n one t x ≡ kept u → CutTo n t u
-cut-to {n} {t} {u} s one x lx long e =
+pub cut-to : {n : ℕ} {t u : Square} → Sound n t → (aside : List ℕ) (x : ℕ) → x < n → longer n t x ≡ true → cutAt n aside t x ≡ kept u → CutTo n t u
+cut-to {n} {t} {u} s aside x lx long e =
     let two : 2 ≤ listLength n (row t x) = longer-two n t x long in
     let some : 0 < listLength n (row t x) = omega arith in
     let z : ℕ = firstOn n (row t x) in
     let j : (j : ℕ) × (j < n) × (0 < at t x j) = some-listed n (row t x) some in
     let f : (z < n) × (0 < at t x z) × (at t x z ≤ at t x (j .0)) = first-best n (row t x) (j .0) (j .1) (j .2) in
     let back : 0 < at t z x = s .both x z (f .1) in
-    case (cut-trial n one t x u e)
+    case (cut-trial n aside t x u e)
     (λ q. rw (q .0) (trial-cut s z (f .0) (listed-some n (row t z) x lx back)))
     (λ q. rw (q .0) (trial-cut s x lx some))
 
-pub cuts-shrunk : {n : ℕ} {one t u : Square} → Sound n t → Cuts n one t u → Shrunk t u
+pub cuts-shrunk : {n : ℕ} {aside : List ℕ} {t u : Square} → Sound n t → Cuts n aside t u → Shrunk t u
 cuts-shrunk s uncut = shrunk-refl s
 cuts-shrunk s (cut-then x lx long e r) =
     let c : CutTo _ _ _ = cut-to s _ x lx long e in

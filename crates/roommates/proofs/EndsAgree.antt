@@ -7,13 +7,13 @@ use Rattle.sheet.specs.Square.{at}
 use Rattle.base.proofs.Cases.{case, both-ways}
 use Rattle.roommates.specs.Lists.{Square}
 use Rattle.roommates.specs.PhaseOne.{Work, someEmptied}
+use Rattle.roommates.specs.Runs.{OneEnded}
 use Rattle.roommates.proofs.Confluence.{Under, same-lists, empty-everywhere}
 use Rattle.roommates.proofs.Sound.{Sound}
 use Rattle.roommates.proofs.States.{stateOf}
 use Rattle.roommates.proofs.Emptied.{some-emptied}
 use Rattle.roommates.proofs.RunsKeep.{run-invariant, run-under}
 use Rattle.roommates.proofs.HasList.{HasList, has-list, on-list}
-use Rattle.roommates.proofs.Workings.{OneEnded}
 use Rattle.roommates.proofs.PhaseOneEnds.{one-sound, one-ended, one-none-empty}
 
 module _ {n : ℕ} {t : Square} (s : Sound n t) where

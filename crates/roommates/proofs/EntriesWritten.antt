@@ -12,7 +12,7 @@ use Rattle.base.proofs.CountBelow.{ones, count-sum, count-same}
 use Rattle.base.proofs.SumBelow.{sum-same}
 use Rattle.base.proofs.Joined.{joined-length, joined-same}
 use Rattle.roommates.specs.Lists.{Square, row, isListed, listLength}
-use Rattle.roommates.specs.Working.{entry, rowEntries, entries, entryCount, listBytes}
+use Rattle.roommates.specs.Left.{entry, rowEntries, entries, entryCount, listBytes}
 
 -- three bytes for an entry
 three : (n : ℕ) (f : ℕ → ℕ) → sumBelow n (λ b. 3 * f b) ≡ 3 * sumBelow n f

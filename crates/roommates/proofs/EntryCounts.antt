@@ -12,7 +12,7 @@ use Rattle.sheet.specs.Square.{at}
 use Rattle.base.proofs.Cases.{case, lt-ge}
 use Rattle.base.proofs.Tests.{unlisted}
 use Rattle.roommates.specs.Lists.{Square, row, isListed, listLength, bandSize}
-use Rattle.roommates.specs.Working.{entryCount}
+use Rattle.roommates.specs.Left.{entryCount}
 use Rattle.roommates.proofs.Basics.{Below}
 use Rattle.base.specs.Below.{sumBelow}
 use Rattle.base.proofs.CountBelow.{count-sum, count-most, count-one}

@@ -40,6 +40,10 @@ pub mod StepProposals
 pub mod Steps
 pub mod Running
 pub mod RunsKeep
+-- What a run's history says of proposals.
+pub mod HistoriesReached
+pub mod Histories
+pub mod CountsAsSaid
 -- What is counted and written.
 pub mod EntryCounts
 pub mod EntriesWritten
@@ -47,12 +51,12 @@ pub mod EntriesListed
 pub mod PairsWritten
 pub mod FewProposals
 pub mod CutsStrike
--- How workings end: their fuel lasts, and without choices nothing is refused.
+-- How workings end: every one is a run, its fuel lasts, and which choices it refuses.
 pub mod FuelLasts
-pub mod PhaseTwoRuns
-pub mod Workings
+pub mod Stages
+pub mod Arrivals
 pub mod WorkingsEnd
-pub mod NoChoices
+pub mod ChoicesRefused
 -- What the ends of the phases say, and so the demands.
 pub mod PhaseOneEnds
 pub mod EndsAgree

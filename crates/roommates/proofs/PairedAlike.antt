@@ -13,11 +13,11 @@ use Rattle.matching.specs.Matchings.{partner}
 use Rattle.blocking.specs.Blocking.{isSuperStable}
 use Rattle.roommates.specs.Lists.{Square, row, listLength}
 use Rattle.roommates.specs.PhaseOne.{Work}
-use Rattle.roommates.specs.Working.{pairingOf}
+use Rattle.roommates.specs.Left.{pairingOf}
+use Rattle.roommates.specs.Runs.{OneEnded}
 use Rattle.roommates.proofs.Basics.{Stable}
 use Rattle.roommates.proofs.Sound.{Sound, promise-sound}
 use Rattle.roommates.proofs.PairsWritten.{partner-none, pairing-at, pairing-length}
-use Rattle.roommates.proofs.Workings.{OneEnded}
 use Rattle.roommates.proofs.HasList.{HasList}
 use Rattle.roommates.proofs.PhaseOneEnds.{pairs-all, pairs-only}
 use Rattle.roommates.proofs.PhaseTwoEnds.{partnerIn, had-list}

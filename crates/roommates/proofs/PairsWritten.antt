@@ -15,7 +15,7 @@ use Rattle.base.proofs.SumBelow.{sum-same}
 use Rattle.base.proofs.Joined.{singles-length, single-at}
 use Rattle.matching.specs.Matchings.{partner, pairedJoints, pairCount}
 use Rattle.roommates.specs.Lists.{Square, row, isListed, listLength}
-use Rattle.roommates.specs.Working.{partnerOn, pairingOf, listedJoints, entryCount}
+use Rattle.roommates.specs.Left.{partnerOn, pairingOf, listedJoints, entryCount}
 use Rattle.roommates.proofs.Rows.{some-listed, listed-some, listed-two}
 use Rattle.roommates.proofs.EntryCounts.{entries-even}
 use Rattle.roommates.proofs.Sound.{Sound}

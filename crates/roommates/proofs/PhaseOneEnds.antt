@@ -6,6 +6,7 @@ use native.Mathlib.Omega.{arith}
 use Rattle.sheet.specs.Square.{at}
 use Rattle.roommates.specs.Lists.{Square, row, firstOn}
 use Rattle.roommates.specs.PhaseOne.{Work, someEmptied}
+use Rattle.roommates.specs.Runs.{OneEnded}
 use Rattle.roommates.proofs.Basics.{Stable, On, PhaseEnd}
 use Rattle.roommates.proofs.Proposals.{Invariant, Ended}
 use Rattle.roommates.proofs.StrikesCompose.{was-there, below-refl}
@@ -22,7 +23,6 @@ use Rattle.roommates.proofs.Running.{run-steady}
 use Rattle.roommates.proofs.Emptied.{some-emptied, none-emptied}
 use Rattle.roommates.proofs.RunsKeep.{run-invariant, run-survives}
 use Rattle.roommates.proofs.HasList.{HasList, has-list, on-list}
-use Rattle.roommates.proofs.Workings.{OneEnded}
 
 module _ {n : ℕ} {t : Square} {w : Work} (s : Sound n t) (e : OneEnded n t w) where
   steady : Steady n w

@@ -10,9 +10,9 @@ use Rattle.sheet.specs.Square.{at}
 use Rattle.base.proofs.Cases.{case, lt-ge, eq-ne}
 use Rattle.roommates.specs.Lists.{Square, row, listLength}
 use Rattle.roommates.specs.PhaseOne.{Work, someEmptied}
-use Rattle.roommates.specs.PhaseTwo.{neither, cutAt, longer}
-use Rattle.roommates.specs.Runs.{Cuts}
-use Rattle.roommates.specs.Working.{pairingOf}
+use Rattle.roommates.specs.PhaseTwo.{asideOf, neither, cutAt, longer}
+use Rattle.roommates.specs.Runs.{OneEnded, Cuts}
+use Rattle.roommates.specs.Left.{pairingOf}
 use Rattle.roommates.proofs.Basics.{Stable, On}
 use Rattle.roommates.proofs.Rows.{listed-two}
 use Rattle.roommates.proofs.Tables.{Table}
@@ -21,7 +21,6 @@ use Rattle.roommates.proofs.MatchingInTable.{matching-in-table}
 use Rattle.roommates.proofs.Sound.{Sound, shrunk-sound}
 use Rattle.roommates.proofs.CutsStrike.{cuts-shrunk}
 use Rattle.roommates.proofs.PairsWritten.{AtMostOne, partner-none, partner-only, pairing-at}
-use Rattle.roommates.proofs.Workings.{OneEnded}
 use Rattle.roommates.proofs.HasList.{HasList, has-list, on-list}
 use Rattle.roommates.proofs.PhaseOneEnds.{one-sound, one-table, pairs-all, pairs-only}
 use Rattle.roommates.proofs.CutsOfTables.{cut-fails, cuts-keep-table}
@@ -34,7 +33,7 @@ pub short-lists : (n : ℕ) (u : Square) → ((x : ℕ) → x < n → longer n u
 short-lists n u short x l = let h : listLength n (row u x) < 2 = leb-false 2 (listLength n (row u x)) (short x l) in omega arith
 
 module _ {n : ℕ} {t u : Square} {w : Work} (s : Sound n t) (e : OneEnded n t w) (ok : someEmptied n w ≡ false)
-    (made : Cuts n (w .lists) (w .lists) u) where
+    (made : Cuts n (asideOf n (w .lists)) (w .lists) u) where
   sound₁ : Sound n (w .lists)
   sound₁ = one-sound s e
 
@@ -50,7 +49,7 @@ module _ {n : ℕ} {t u : Square} {w : Work} (s : Sound n t) (e : OneEnded n t w
   pub had-list : (p : ℕ) → HasList n u p → HasList n (w .lists) p
   had-list p h = let r : (q : ℕ) × (0 < at u p q) = on-list n u p h in left-table .listed p (r .0) (r .1)
 
-  pub none-where-both-fail : (x : ℕ) → longer n u x ≡ true → cutAt n (w .lists) u x ≡ neither → {M : ℕ → ℕ} → Stable (at t) M → ⊥
+  pub none-where-both-fail : (x : ℕ) → longer n u x ≡ true → cutAt n (asideOf n (w .lists)) u x ≡ neither → {M : ℕ → ℕ} → Stable (at t) M → ⊥
   none-where-both-fail x long c {M} stable =
       let r : (M′ : ℕ → ℕ) × (Stable (at t) M′ × On (at t) (at u) M′)
       = matching-in-table left-table stable (pairs-all s e stable) (pairs-only s e stable) n (λ a b h. s .inside a b h .0) in

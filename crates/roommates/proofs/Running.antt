@@ -1,20 +1,16 @@
 -- Along any run: what each proposal keeps is kept, the lists only shrink, who received has received; and phase one is a run.
 use mathlib.Core.Path.{_≡_, refl, _∙_}
-use mathlib.Core.Bool.{true, false, _&&_}
+use mathlib.Core.Bool.{Bool, false, true}
 use mathlib.Core.Logic.{_⊎_, inl, inr}
-use mathlib.Core.List.{List}
 use Prim.Native.Nat.{ℕ, zero, suc, _+_, _≤_, _<_}
 use native.Mathlib.Omega.{arith}
-use lib.Dec.{eqb, ltb}
-use lib.ListN.{getD}
-use borrow.Author.Tests.{eqb-true, ltb-true}
+use lib.Dec.{eqb}
+use borrow.Author.Tests.{eqb-true, eqb-false}
 use Rattle.base.proofs.Cases.{case, both-ways}
-use Rattle.base.proofs.Tests.{and-true, never}
-use Rattle.base.specs.Below.{lowest}
-use Rattle.roommates.specs.PhaseOne.{Work, Ran, waits, step, phaseOneFrom}
+use Rattle.roommates.specs.PhaseOne.{Work, waits, step, lowestWaiting, runOut}
 use Rattle.roommates.specs.Runs.{Run, stop, then}
 use Rattle.roommates.proofs.Proposals.{State}
-use Rattle.base.proofs.Lowest.{none-passes}
+use Rattle.base.proofs.Lowest.{none-passes, lowest-at-most, lowest-passes}
 use Rattle.roommates.proofs.Sound.{Shrunk, shrunk-refl, shrunk-trans}
 use Rattle.roommates.proofs.States.{stateOf, Steady}
 use Rattle.roommates.proofs.StepProposals.{Kept}
@@ -36,40 +32,24 @@ pub run-cuts : {n : ℕ} {w w′ : Work} → Run n w w′ → w′ .cuts ≡ w .
 run-cuts stop = refl
 run-cuts {n} {w} {w′} (then p h e r) = run-cuts r ∙ step-cuts n w p
 
--- how phase one, with f steps to go, can stop
-pub record Stopped (n f : ℕ) (w : Work) (r : Ran) : Type 0 where
-  pub run : Run n w (r .work-is)
-  pub quiet : r .done ≡ true → (p : ℕ) → p < n → waits n (r .work-is) p ≡ false
-  pub refused : (r .refusal ≡ 0) ⊎ ((r .refusal ≡ 11) × (r .done ≡ false))
-  -- neither refused nor done: it made a proposal at each step
-  pub spent : r .refusal ≡ 0 → r .done ≡ false → w .proposals + f ≤ r .work-is .proposals
+-- phase one without choices, with f steps to go, is a run; it ends, or each step made a proposal
+pub record RanOut (n f : ℕ) (w w′ : Work) : Type 0 where
+  pub run : Run n w w′
+  pub how : ((p : ℕ) → p < n → waits n w′ p ≡ false) ⊎ (w .proposals + f ≤ w′ .proposals)
 
-pub phase-one-stops : (f n : ℕ) (w : Work) (cs : List ℕ) (i : ℕ) → Stopped n f w (phaseOneFrom f n w cs i)
-unfolding phaseOneFrom
-phase-one-stops zero n w cs i = record { run = stop; quiet = λ d. absurd (never _ d refl); refused = inl refl; spent = λ z d. omega arith }
-phase-one-stops (suc f) n w cs i =
-    let low = lowest n (λ p. waits n w p) in
-    let p = getD cs i low in
+pub runs-out : (f n : ℕ) (w : Work) → RanOut n f w (runOut f n w)
+unfolding runOut
+runs-out zero n w = record { run = stop; how = inr (omega arith) }
+runs-out (suc f) n w =
+    let test : ℕ → Bool = λ p. waits n w p in
+    let low : ℕ = lowestWaiting n w in
     case (both-ways (eqb low n))
-    (λ b. rw b record {
-      run = stop;
-      quiet = λ d. none-passes n (λ p. waits n w p) (eqb-true low n b);
-      refused = inl refl;
-      spent = λ z d. absurd (never _ refl d);
+    (λ b. rw b record { run = stop; how = inl (none-passes n test (eqb-true low n b)) })
+    (λ b.
+    let lt : low < n = let d = eqb-false low n b in omega (arith, lowest-at-most n test) in
+    let ok : waits n w low ≡ true = lowest-passes n test lt in
+    let m : RanOut n f (step n w low) (runOut f n (step n w low)) = runs-out f n (step n w low) in
+    rw b record {
+      run = then low lt ok (m .run);
+      how = case (m .how) inl (λ more. inr (omega (arith, step-proposes n w low ok)));
     })
-    (λ b. case (both-ways (ltb p n && waits n w p))
-    (λ c.
-    let g : (ltb p n ≡ true) × (waits n w p ≡ true) = and-true (ltb p n) (waits n w p) c in
-    let m : Stopped n f (step n w p) (phaseOneFrom f n (step n w p) cs (suc i)) = phase-one-stops f n (step n w p) cs (suc i) in
-    rw (b, c) record {
-      run = then p (ltb-true p n (g .0)) (g .1) (m .run);
-      quiet = m .quiet;
-      refused = m .refused;
-      spent = λ z d. omega (arith, step-proposes n w p (g .1), m .spent z d);
-    })
-    (λ c. rw (b, c) record {
-      run = stop;
-      quiet = λ d. absurd (never _ d refl);
-      refused = inr (refl, refl);
-      spent = λ z d. absurd (omega arith);
-    }))

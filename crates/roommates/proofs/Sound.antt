@@ -57,6 +57,21 @@ shrunk-sound {n} {t} {u} s r = record {
   both = r .below .both;
 }
 
+pub shrunk-promise : {n : ℕ} {t u : Square} → SquarePromise n t → Shrunk t u → SquarePromise n u
+shrunk-promise {n} {t} {u} p r =
+    let s = shrunk-sound (promise-sound p) r in record {
+      few-joints = s .few-joints;
+      rows = s .rows;
+      row = s .row-length;
+      inside = s .inside;
+      not-itself = s .not-itself;
+      mutual-listing = s .both;
+      small-band = λ a b.
+          case (lt-ge 0 (at u a b))
+          (λ h. rw (r .below .kept a b h) (p .small-band a b))
+          (λ h. omega arith);
+    }
+
 -- a place that is not 0 after a strike is not of the struck pair
 struck-same : (t : Square) (a b c d : ℕ) → 0 < at (struck t a b) c d → at (struck t a b) c d ≡ at t c d
 struck-same t a b c d h =

@@ -25,7 +25,7 @@ pub record Steady (n : ℕ) (w : Work) : Type 0 where
   pub received-length : length (w .received) ≡ 128
   pub heads : (p q : ℕ) → 0 < at (w .lists) p q → getD (w .reach) p 0 ≤ at (w .lists) p q
 
-zeros : (m i : ℕ) → _≡_ {A = ℕ} (getD (replicate m 0) i 0) 0
+pub zeros : (m i : ℕ) → _≡_ {A = ℕ} (getD (replicate m 0) i 0) 0
 zeros zero i = refl
 zeros (suc m) zero = refl
 zeros (suc m) (suc i) = zeros m i

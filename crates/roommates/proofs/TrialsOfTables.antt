@@ -1,14 +1,14 @@
 -- A trial of the definitions, from a table: it begins with the theory's trim, ends like phase one, and keeps a table where it passes.
 use mathlib.Core.Path.{_≡_, sym}
 use mathlib.Core.Bool.{true}
-use mathlib.Core.List.{[]}
 use Prim.Native.Nat.{ℕ, _≤_, _<_}
 use native.Mathlib.Omega.{arith}
 use Rattle.sheet.specs.Square.{at}
 use Rattle.base.proofs.Cases.{case}
 use Rattle.roommates.specs.Lists.{Square, row, worstBand, firstOn}
 use Rattle.roommates.specs.PhaseOne.{Work, fresh, phaseOne}
-use Rattle.roommates.specs.PhaseTwo.{trialStart, trial}
+use Rattle.roommates.specs.Runs.{OneEnded}
+use Rattle.roommates.specs.PhaseTwo.{trialStart, trial, asideOf}
 use Rattle.roommates.proofs.Basics.{Bands, Below, Stable, On}
 use Rattle.roommates.proofs.Proposals.{Trim}
 use Rattle.roommates.proofs.StrikesCompose.{below-trans, trim-below}
@@ -18,9 +18,8 @@ use Rattle.roommates.proofs.Tables.{Table}
 use Rattle.roommates.proofs.TrialKeepsTable.{trial-table}
 use Rattle.roommates.proofs.Sound.{Sound}
 use Rattle.roommates.proofs.Trims.{trial-trim}
-use Rattle.roommates.proofs.FuelLasts.{trial-ends}
+use Rattle.roommates.proofs.FuelLasts.{phase-one-ends}
 use Rattle.roommates.proofs.CutsStrike.{start-sound, passes}
-use Rattle.roommates.proofs.Workings.{OneEnded, one-done}
 use Rattle.roommates.proofs.RunsKeep.{run-survives}
 use Rattle.roommates.proofs.HasList.{HasList, has-list, on-list}
 use Rattle.roommates.proofs.NoneEmptied.{none-emptied-has, has-none-emptied}
@@ -28,10 +27,10 @@ use Rattle.roommates.proofs.PhaseOneEnds.{one-end, one-sound}
 
 -- the working in which a trial at v ends
 abbrev trialWork : ℕ → Square → ℕ → Work
-trialWork n t v = phaseOne n (fresh (trialStart n t v)) [] .work-is
+trialWork n t v = phaseOne n (fresh (trialStart n t v))
 
 trial-one : {n : ℕ} {t : Square} → Sound n t → (v : ℕ) → OneEnded n (trialStart n t v) (trialWork n t v)
-trial-one {n} {t} s v = one-done n (trialStart n t v) [] (trial-ends n (trialStart n t v) (start-sound s v))
+trial-one s v = phase-one-ends (start-sound s v)
 
 module _ {n : ℕ} {P : Bands} {one t : Square} (s : Sound n t) (s₁ : Sound n one) (tab : Table P (HasList n one) (at t)) where
   pub first-is : (x : ℕ) → HasList n one x → firstOn n (row t x) ≡ tab .first x
@@ -54,7 +53,7 @@ module _ {n : ℕ} {P : Bands} {one t : Square} (s : Sound n t) (s₁ : Sound n 
   pub start-trim : (v : ℕ) → HasList n one v → Trim (at t) (at (trialStart n t v)) v (at t v (tab .last v))
   start-trim v h = rw (sym (worst-is v h)) (trial-trim s v)
 
-  pub trial-keeps-table : (v : ℕ) → HasList n one v → passes n one t v ≡ true → Table P (HasList n one) (at (trial n t v))
+  pub trial-keeps-table : (v : ℕ) → HasList n one v → passes n (asideOf n one) t v ≡ true → Table P (HasList n one) (at (trial n t v))
   unfolding trial
   trial-keeps-table v h ok =
       trial-table tab v h (start-trim v h) (one-end (start-sound s v) (trial-one s v))
@@ -62,10 +61,10 @@ module _ {n : ℕ} {P : Bands} {one t : Square} (s : Sound n t) (s₁ : Sound n 
 
   -- a super-stable matching that the trim spares survives the trial, so that the trial passes
   pub trial-passes : (v : ℕ) → HasList n one v → {M : ℕ → ℕ} → ((a b : ℕ) → 0 < P a b → 0 < P b a) → Stable P M
-      → ((p : ℕ) → HasList n one p → 0 < P p (M p)) → On P (at (trialStart n t v)) M → passes n one t v ≡ true
+      → ((p : ℕ) → HasList n one p → 0 < P p (M p)) → On P (at (trialStart n t v)) M → passes n (asideOf n one) t v ≡ true
   unfolding trial
   trial-passes v h {M} bothP stable all on =
       let below : Below (at (trialStart n t v)) P = below-trans (trim-below (start-trim v h)) (tab .below) in
       let end : OneEnded n (trialStart n t v) (trialWork n t v) = trial-one s v in
       let still : On P (at (trial n t v)) M = run-survives (start-sound s v) (end .run) bothP stable below on in
-      has-none-emptied n one (trial n t v) λ a l has. has-list (one-sound (start-sound s v) end) a (M a) (still a (all a has))
+      has-none-emptied n one (trial n t v) (s .few-joints) λ a l has. has-list (one-sound (start-sound s v) end) a (M a) (still a (all a has))

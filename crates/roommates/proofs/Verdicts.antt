@@ -1,23 +1,22 @@
--- What a working of settle that was not refused says, and why: for each verdict what it ended in.
-use mathlib.Core.Path.{_≡_, refl, _∙_}
+-- What an ended working of settle says, and why: for each verdict what it ended in.
+use mathlib.Core.Path.{_≡_, refl, _∙_, ap}
 use mathlib.Core.Bool.{true, false}
-use mathlib.Core.List.{List}
 use Prim.Native.Nat.{ℕ, _*_, _≤_}
 use native.Mathlib.Omega.{arith}
 use Rattle.sheet.specs.Square.{at}
 use Rattle.base.proofs.Tests.{never}
+use Rattle.roommates.specs.declared.Stage.the-variants.{NoneOne, NoneTwo, Paired}
 use Rattle.roommates.specs.Lists.{Square}
 use Rattle.roommates.specs.PhaseOne.{Work, someEmptied}
-use Rattle.roommates.specs.PhaseTwo.{Verdict, none-one, none-two, paired, End}
-use Rattle.roommates.specs.Runs.{Cuts}
+use Rattle.roommates.specs.PhaseTwo.{asideOf}
+use Rattle.roommates.specs.Runs.{OneEnded, Cuts, ByCuts, Arrived, in-one, none-in-one, lists-left, in-two, none-in-two, all-short}
 use Rattle.matching.specs.Matchings.{pairCount}
-use Rattle.roommates.specs.Working.{settles, pairingOf, listedJoints}
+use Rattle.roommates.specs.Left.{pairingOf, listedJoints}
 use Rattle.roommates.specs.Claims.{answerOf}
 use Rattle.roommates.proofs.Basics.{Stable}
 use Rattle.roommates.proofs.Sound.{Sound}
 use Rattle.roommates.proofs.PairsWritten.{AtMostOne, paired-listed, listed-same, pairs-exact}
-use Rattle.roommates.proofs.PhaseTwoRuns.{TwoEnd, all-short, both-fail, two-refused}
-use Rattle.roommates.proofs.Workings.{OneEnded, SettleEnd, refused-one, emptied-one, on-to-two, settles-ends}
+use Rattle.roommates.proofs.Stages.{Over, one-goes-on, two-goes-on}
 use Rattle.roommates.proofs.PhaseTwoEnds.{partnerIn, short-lists, left-sound, left-has, had-list, none-where-both-fail, pairing-stable}
 use Rattle.roommates.proofs.EndsAgree.{ends-emptied, ends-listed}
 
@@ -25,42 +24,31 @@ use Rattle.roommates.proofs.EndsAgree.{ends-emptied, ends-listed}
 pub record Pairing (n : ℕ) (t : Square) (w : Work) (u : Square) : Type 0 where
   pub one : OneEnded n t w
   pub unemptied : someEmptied n w ≡ false
-  pub made : Cuts n (w .lists) (w .lists) u
+  pub made : Cuts n (asideOf n (w .lists)) (w .lists) u
   pub short : AtMostOne n u
 
 abbrev pub NoStable : Square → Type 0
 NoStable t = (M : ℕ → ℕ) → Stable (at t) M → ⊥
 
-pub data Says (n : ℕ) (t : Square) (r : End) : Type 0 where
-  says-none-one : r .verdict ≡ none-one → (w : Work) → OneEnded n t w → someEmptied n w ≡ true → Says n t r
-  says-none-two : r .verdict ≡ none-two → (w : Work) → OneEnded n t w → someEmptied n w ≡ false → NoStable t → Says n t r
-  says-paired : r .verdict ≡ paired → (w : Work) → Pairing n t w (r .work-is .lists) → Says n t r
-
--- two different verdicts
-pub one-two : {v : Verdict} → v ≡ none-one → v ≡ none-two → ⊥
-one-two e f = let z : _≡_ {A = ℕ} 0 1 = cc in omega arith
-
-pub one-paired : {v : Verdict} → v ≡ none-one → v ≡ paired → ⊥
-one-paired e f = let z : _≡_ {A = ℕ} 0 1 = cc in omega arith
-
-pub two-paired : {v : Verdict} → v ≡ none-two → v ≡ paired → ⊥
-two-paired e f = let z : _≡_ {A = ℕ} 0 1 = cc in omega arith
+pub data Says (n : ℕ) (t : Square) (w : Work) : Type 0 where
+  says-none-one : w .stage ≡ NoneOne → (v : Work) → OneEnded n t v → someEmptied n v ≡ true → Says n t w
+  says-none-two : w .stage ≡ NoneTwo → (v : Work) → OneEnded n t v → someEmptied n v ≡ false → NoStable t → Says n t w
+  says-paired : w .stage ≡ Paired → (v : Work) → Pairing n t v (w .lists) → Says n t w
 
 module _ {n : ℕ} {t : Square} (s : Sound n t) where
-  two-says : {r : End} {w : Work} → OneEnded n t w → someEmptied n w ≡ false → Cuts n (w .lists) (w .lists) (r .work-is .lists)
-      → TwoEnd n (w .lists) r → r .refusal ≡ 0 → Says n t r
-  two-says {r} {w} e ok made (all-short v l short) z =
-      says-paired v w record { one = e; unemptied = ok; made = made; short = short-lists n (r .work-is .lists) short }
-  two-says {r} {w} e ok made (both-fail v l x lx long c) z = says-none-two v w e ok (λ M. none-where-both-fail s e ok made x long c)
-  two-says {r} {w} e ok made (two-refused v l) z = absurd (omega arith)
+  cuts-made : {w : Work} {k : ℕ} (b : ByCuts n t w k) → Cuts n (asideOf n (b .one .lists)) (b .one .lists) (w .lists)
+  cuts-made b = rw (b .aside-is) at (b .made)
 
-  end-says : {r : End} → SettleEnd n t r → r .refusal ≡ 0 → Says n t r
-  end-says (refused-one h) z = let l = h .refusal-is in absurd (omega arith)
-  end-says {r} (emptied-one e bad v l) z = says-none-one v (r .work-is) e bad
-  end-says (on-to-two w e ok m d) z = two-says e ok (m .made) d z
-
-  pub settles-says : (cs : List ℕ) → settles n t cs .refusal ≡ 0 → Says n t (settles n t cs)
-  settles-says cs z = end-says (settles-ends n t s cs) z
+  pub arrived-says : {w : Work} → Arrived true n t w → Over (w .stage) → Says n t w
+  arrived-says (in-one h r p l e) over = absurd (one-goes-on h over)
+  arrived-says (none-in-one v h e bad) over = says-none-one (ap (λ u. u .stage) h) v e bad
+  arrived-says (lists-left wh v h e ok) over = absurd (never _ refl wh)
+  arrived-says (in-two wh h b x l e) over = absurd (two-goes-on h over)
+  arrived-says (none-in-two wh h b x l long c) over =
+      says-none-two h (b .one) (b .ended) (b .unemptied)
+      (λ M. none-where-both-fail s (b .ended) (b .unemptied) (cuts-made b) x long (rw (b .aside-is) at c))
+  arrived-says {w} (all-short wh h b short) over =
+      says-paired h (b .one) record { one = b .ended; unemptied = b .unemptied; made = cuts-made b; short = short-lists n (w .lists) short }
 
   -- two joints to a pair: those with a list left where phase one ended, in whatever order
   pub pairing-count : {w v : Work} {u : Square} → Pairing n t w u → OneEnded n t v → 2 * pairCount (pairingOf n u) ≡ listedJoints n (v .lists)
@@ -85,7 +73,7 @@ module _ {n : ℕ} {t : Square} (s : Sound n t) where
   apart d e x y = never _ x (ends-emptied s d e ∙ y)
 
   -- no two workings that were not refused answer otherwise
-  pub same-answer : {r q : End} → Says n t r → Says n t q → answerOf n r ≡ answerOf n q
+  pub same-answer : {w v : Work} → Says n t w → Says n t v → answerOf n w ≡ answerOf n v
   same-answer (says-none-one v w e bad) (says-none-one v′ w′ e′ bad′) = rw (v, v′) refl
   same-answer (says-none-one v w e bad) (says-none-two v′ w′ e′ ok nil) = absurd (apart e e′ bad ok)
   same-answer (says-none-one v w e bad) (says-paired v′ w′ p) = absurd (apart e (p .one) bad (p .unemptied))

@@ -1,80 +1,124 @@
--- What holds of settle's and shorten's workings for every list of choices: demands 2 and 3.
+-- What holds of settle's and shorten's workings for every list of choices: demands 2 and 3, the refusals of choices, the counts.
 use mathlib.Core.Path.{_≡_}
-use mathlib.Core.Bool.{true, false}
+use mathlib.Core.Bool.{Bool, true, false}
 use mathlib.Core.Logic.{_⊎_, _≢_, _↔_}
-use mathlib.Core.List.{List, []}
+use mathlib.Core.List.{List, [], _∷_, _++_}
 use Prim.Native.Nat.{ℕ, _*_, _≤_, _<_}
 use lib.Dec.{eqb}
 use Rattle.sheet.specs.Format.{joints, rankCount}
 use Rattle.sheet.specs.Refusals.{sheetFault}
-use Rattle.sheet.specs.Square.{squareOf}
+use Rattle.sheet.specs.Square.{SquarePromise, squareOf}
 use Rattle.matching.specs.Matchings.{partner, pairCount}
 use Rattle.blocking.specs.Blocking.{isSuperStable}
+use Rattle.roommates.specs.declared.Stage.{Stage}
+use Rattle.roommates.specs.declared.Stage.the-variants.{Proposing, Cutting, NoneOne, NoneTwo, Paired}
 use Rattle.roommates.specs.Lists.{Square}
-use Rattle.roommates.specs.PhaseOne.{Ran, fresh, phaseOne}
-use Rattle.roommates.specs.PhaseTwo.{trialStart, Verdict, going, none-one, none-two, paired, End}
-use Rattle.roommates.specs.Runs.{Cuts}
-use Rattle.roommates.specs.Working.{settles, shortens, pairingOf, listedJoints, entryCount, listBytes}
+use Rattle.roommates.specs.PhaseOne.{Work, fresh, waits, step, phaseOne}
+use Rattle.roommates.specs.PhaseTwo.{trialStart, cutAt, longer}
+use Rattle.roommates.specs.Moves.{inOne, begun, Outcome, afterCut, worked, settles, shortens}
+use Rattle.roommates.specs.Runs.{Arrived}
+use Rattle.roommates.specs.Left.{pairingOf, listedJoints, entryCount, listBytes}
+
+-- An outcome's stage, which is its verdict where the working has ended, and its lists.
+abbrev pub stageOf : Outcome → Stage
+stageOf o = o .work-is .stage
+
+abbrev pub listsOf : Outcome → Square
+listsOf o = o .work-is .lists
 
 -- What settle answers: the verdict, with its phase, and the count of pairs, 0 where there is no pairing.
 pub record Answer : Type 0 where
-  pub verdict : Verdict
+  pub verdict : Stage
   pub count : ℕ
 
-abbrev pub countFor : Verdict → ℕ → ℕ
-countFor going k = 0
-countFor none-one k = 0
-countFor none-two k = 0
-countFor paired k = k
+abbrev pub countFor : Stage → ℕ → ℕ
+countFor Proposing k = 0
+countFor Cutting k = 0
+countFor NoneOne k = 0
+countFor NoneTwo k = 0
+countFor Paired k = k
 
-abbrev pub answerOf : ℕ → End → Answer
-answerOf n e = record { verdict = e .verdict; count = countFor (e .verdict) (pairCount (pairingOf n (e .work-is .lists))) }
+abbrev pub answerOf : ℕ → Work → Answer
+answerOf n w = record { verdict = w .stage; count = countFor (w .stage) (pairCount (pairingOf n (w .lists))) }
 
-abbrev pub answer : ℕ → Square → List ℕ → Answer
-answer n t cs = answerOf n (settles n t cs)
-
--- the lists and the rest where phase one has stopped
-abbrev pub afterPhaseOne : ℕ → Square → List ℕ → Ran
-afterPhaseOne n t cs = phaseOne n (fresh t) cs
-
-pub record Settled (n : ℕ) (t : Square) : Type 0 where
+-- For n joints with the lists t: what settle and shorten make of every list of choices.
+pub record Settled (n : ℕ) (t : Square) (settle shorten : List ℕ → Outcome) : Type 0 where
   -- a pairing is returned exactly when there is a super-stable matching, and is one
-  pub is-super : (cs : List ℕ) → settles n t cs .refusal ≡ 0 → settles n t cs .verdict ≡ paired
-      → isSuperStable n t (pairingOf n (settles n t cs .work-is .lists)) ≡ true
-  pub none-is : (cs m : List ℕ) → settles n t cs .refusal ≡ 0 → settles n t cs .verdict ≢ paired → isSuperStable n t m ≡ false
-  pub says-one : (cs : List ℕ) → settles n t cs .refusal ≡ 0
-      → (settles n t cs .verdict ≡ none-one) ⊎ ((settles n t cs .verdict ≡ none-two) ⊎ (settles n t cs .verdict ≡ paired))
+  pub is-super : (cs : List ℕ) → settle cs .refusal ≡ 0 → stageOf (settle cs) ≡ Paired
+      → isSuperStable n t (pairingOf n (listsOf (settle cs))) ≡ true
+  pub none-is : (cs m : List ℕ) → settle cs .refusal ≡ 0 → stageOf (settle cs) ≢ Paired → isSuperStable n t m ≡ false
+  pub says-one : (cs : List ℕ) → settle cs .refusal ≡ 0
+      → (stageOf (settle cs) ≡ NoneOne) ⊎ ((stageOf (settle cs) ≡ NoneTwo) ⊎ (stageOf (settle cs) ≡ Paired))
   -- the same verdict, phase and count of pairs for every list of choices within the rules; as one equation: they are the sheet's alone
-  pub same-verdict : (cs ds : List ℕ) → settles n t cs .refusal ≡ 0 → settles n t ds .refusal ≡ 0 → settles n t cs .verdict ≡ settles n t ds .verdict
-  pub same-count : (cs ds : List ℕ) → settles n t cs .refusal ≡ 0 → settles n t ds .refusal ≡ 0 → settles n t cs .verdict ≡ paired
-      → pairCount (pairingOf n (settles n t cs .work-is .lists)) ≡ pairCount (pairingOf n (settles n t ds .work-is .lists))
-  pub one-answer : (cs ds : List ℕ) → settles n t cs .refusal ≡ 0 → settles n t ds .refusal ≡ 0 → answer n t cs ≡ answer n t ds
+  pub same-verdict : (cs ds : List ℕ) → settle cs .refusal ≡ 0 → settle ds .refusal ≡ 0 → stageOf (settle cs) ≡ stageOf (settle ds)
+  pub same-count : (cs ds : List ℕ) → settle cs .refusal ≡ 0 → settle ds .refusal ≡ 0 → stageOf (settle cs) ≡ Paired
+      → pairCount (pairingOf n (listsOf (settle cs))) ≡ pairCount (pairingOf n (listsOf (settle ds)))
+  pub one-answer : (cs ds : List ℕ) → settle cs .refusal ≡ 0 → settle ds .refusal ≡ 0
+      → answerOf n (settle cs .work-is) ≡ answerOf n (settle ds .work-is)
   -- shorten: none exactly for none in phase one; else the same lists
-  pub shorten-says : (cs : List ℕ) → shortens n t cs .refusal ≡ 0 → (shortens n t cs .verdict ≡ none-one) ⊎ (shortens n t cs .verdict ≡ paired)
-  pub shorten-none : (cs ds : List ℕ) → shortens n t cs .refusal ≡ 0 → settles n t ds .refusal ≡ 0
-      → (shortens n t cs .verdict ≡ none-one) ↔ (settles n t ds .verdict ≡ none-one)
-  pub same-lists : (cs ds : List ℕ) → shortens n t cs .refusal ≡ 0 → shortens n t ds .refusal ≡ 0 → shortens n t cs .verdict ≢ none-one
-      → listBytes n (shortens n t cs .work-is .lists) ≡ listBytes n (shortens n t ds .work-is .lists)
+  pub shorten-says : (cs : List ℕ) → shorten cs .refusal ≡ 0 → (stageOf (shorten cs) ≡ NoneOne) ⊎ (stageOf (shorten cs) ≡ Paired)
+  pub shorten-none : (cs ds : List ℕ) → shorten cs .refusal ≡ 0 → settle ds .refusal ≡ 0
+      → (stageOf (shorten cs) ≡ NoneOne) ↔ (stageOf (settle ds) ≡ NoneOne)
+  pub same-lists : (cs ds : List ℕ) → shorten cs .refusal ≡ 0 → shorten ds .refusal ≡ 0 → stageOf (shorten cs) ≢ NoneOne
+      → listBytes n (listsOf (shorten cs)) ≡ listBytes n (listsOf (shorten ds))
   -- every super-stable matching pairs exactly the joints that settle pairs: those with a list left after phase one
-  pub same-joints : (cs m : List ℕ) (a : ℕ) → settles n t cs .refusal ≡ 0 → settles n t cs .verdict ≡ paired → isSuperStable n t m ≡ true → a < n
-      → eqb (partner m a) 255 ≡ eqb (partner (pairingOf n (settles n t cs .work-is .lists)) a) 255
-  pub count-is : (cs ds : List ℕ) → settles n t cs .refusal ≡ 0 → settles n t cs .verdict ≡ paired → afterPhaseOne n t ds .done ≡ true
-      → 2 * pairCount (pairingOf n (settles n t cs .work-is .lists)) ≡ listedJoints n (afterPhaseOne n t ds .work-is .lists)
+  pub same-joints : (cs m : List ℕ) (a : ℕ) → settle cs .refusal ≡ 0 → stageOf (settle cs) ≡ Paired → isSuperStable n t m ≡ true → a < n
+      → eqb (partner m a) 255 ≡ eqb (partner (pairingOf n (listsOf (settle cs))) a) 255
+  pub count-is : (cs ds : List ℕ) → settle cs .refusal ≡ 0 → stageOf (settle cs) ≡ Paired → shorten ds .refusal ≡ 0
+      → 2 * pairCount (pairingOf n (listsOf (settle cs))) ≡ listedJoints n (listsOf (shorten ds))
   -- proposals and cuts, after refused choices too
-  pub few-proposals : (cs : List ℕ) → (settles n t cs .work-is .proposals ≤ n * n) × (shortens n t cs .work-is .proposals ≤ n * n)
-  pub few-cuts : (cs : List ℕ) → (2 * settles n t cs .work-is .cuts ≤ entryCount n t) × (shortens n t cs .work-is .cuts ≡ 0)
-  -- no fuel runs out: phase one ends or refuses a choice, each trial ends, and a working goes on only where a choice was refused
-  pub phase-one-ends : (cs : List ℕ) → (afterPhaseOne n t cs .done ≡ true) ⊎ (afterPhaseOne n t cs .refusal ≡ 11)
-  pub trials-end : (cs : List ℕ) (u : Square) → Cuts n (afterPhaseOne n t cs .work-is .lists) (afterPhaseOne n t cs .work-is .lists) u
-      → (v : ℕ) → phaseOne n (fresh (trialStart n u v)) [] .done ≡ true
-  pub going-refused : (cs : List ℕ) → settles n t cs .verdict ≡ going → (settles n t cs .refusal ≡ 11) ⊎ (settles n t cs .refusal ≡ 12)
-  pub shorten-refused : (cs : List ℕ) → shortens n t cs .verdict ≡ going → shortens n t cs .refusal ≡ 11
+  pub few-proposals : (cs : List ℕ) → (settle cs .work-is .proposals ≤ n * n) × (shorten cs .work-is .proposals ≤ n * n)
+  pub few-cuts : (cs : List ℕ) → (2 * settle cs .work-is .cuts ≤ entryCount n t) × (shorten cs .work-is .cuts ≡ 0)
+  -- every working came about by steps and cuts, which its counts count
+  pub settle-arrived : (cs : List ℕ) → Arrived true n t (settle cs .work-is)
+  pub shorten-arrived : (cs : List ℕ) → Arrived false n t (shorten cs .work-is)
+  -- each trial ends
+  pub trials-end : (cs : List ℕ) (v p : ℕ) → p < n → waits n (phaseOne n (fresh (trialStart n (listsOf (settle cs)) v))) p ≡ false
   -- without choices nothing is refused
-  pub no-choices : (settles n t [] .refusal ≡ 0) × (shortens n t [] .refusal ≡ 0)
+  pub no-choices : (settle [] .refusal ≡ 0) × (shorten [] .refusal ≡ 0)
 
 -- For every accepted sheet; its square lists just the sheet's entries, so that few-cuts is about their number.
 abbrev pub Demands : Type 0
-Demands = (s : List ℕ) → sheetFault s ≡ 0 → Settled (joints s) (squareOf s)
+Demands = (s : List ℕ) → sheetFault s ≡ 0 → Settled (joints s) (squareOf s) (settles (joints s) (squareOf s)) (shortens (joints s) (squareOf s))
 
 abbrev pub AllListed : Type 0
 AllListed = (s : List ℕ) → sheetFault s ≡ 0 → entryCount (joints s) (squareOf s) ≡ rankCount s
+
+-- THE REFUSALS OF CHOICES. From the working w the choices cs were made, each allowed where it was met, and left the working v.
+pub data Made (whole : Bool) (n : ℕ) : Work → List ℕ → Work → Type 0 where
+  none-made : {w : Work} → Made whole n w [] w
+  step-made : {w v : Work} {cs : List ℕ} (x : ℕ) → w .stage ≡ Proposing → x < n → waits n w x ≡ true
+      → Made whole n (inOne whole n (step n w x)) cs v → Made whole n w (x ∷ cs) v
+  cut-made : {w v : Work} {cs : List ℕ} (x : ℕ) → w .stage ≡ Cutting → x < n → longer n (w .lists) x ≡ true
+      → Made whole n (afterCut n w (cutAt n (w .aside) (w .lists) x)) cs v → Made whole n w (x ∷ cs) v
+
+-- why x may not be chosen next, with the number that says so
+pub data Unfit (n : ℕ) (w : Work) (x : ℕ) : ℕ → Type 0 where
+  -- phase one: the choice doesn't wait, or is no joint
+  not-waiting : w .stage ≡ Proposing → (n ≤ x) ⊎ (waits n w x ≡ false) → Unfit n w x 11
+  -- phase two: the chosen list is not longer than one, or the choice is no joint
+  not-longer : w .stage ≡ Cutting → (n ≤ x) ⊎ (longer n (w .lists) x ≡ false) → Unfit n w x 12
+  -- a choice is left when the working has ended: with none in either phase, or with a pairing (shorten: with lists)
+  ended-before : (w .stage ≡ NoneOne) ⊎ ((w .stage ≡ NoneTwo) ⊎ (w .stage ≡ Paired)) → Unfit n w x 13
+
+-- some choice, after the ones before it were made, may not be chosen, for the reason that k says
+pub record RefusedBy (whole : Bool) (n : ℕ) (t : Square) (cs : List ℕ) (k : ℕ) : Type 0 where
+  pub earlier : List ℕ
+  pub choice : ℕ
+  pub later : List ℕ
+  pub split : cs ≡ earlier ++ (choice ∷ later)
+  pub there : Work
+  pub made : Made whole n (begun whole n t) earlier there
+  pub unfit : Unfit n there choice k
+
+-- For every list of choices, settle's and shorten's; k is not 0.
+pub record ChoicesRefused (whole : Bool) (n : ℕ) (t : Square) (cs : List ℕ) : Type 0 where
+  pub refused-by : (k : ℕ) → k ≢ 0 → (worked whole n t cs .refusal ≡ k) ↔ RefusedBy whole n t cs k
+  -- it stops short of an end only where a choice was refused
+  pub stops-at : SquarePromise n t → (worked whole n t cs .work-is .stage ≡ Proposing → worked whole n t cs .refusal ≡ 11)
+      × (worked whole n t cs .work-is .stage ≡ Cutting → worked whole n t cs .refusal ≡ 12)
+  -- left off wherever the rigger likes: a beginning of a list within the rules is within them
+  pub beginning : (ds : List ℕ) → worked whole n t (cs ++ ds) .refusal ≡ 0 → worked whole n t cs .refusal ≡ 0
+
+abbrev pub Refusals : Type 0
+Refusals = (whole : Bool) (n : ℕ) (t : Square) (cs : List ℕ) → ChoicesRefused whole n t cs

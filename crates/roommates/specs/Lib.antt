@@ -2,6 +2,8 @@
 pub mod Lists
 pub mod PhaseOne
 pub mod PhaseTwo
-pub mod Working
+pub mod Moves
+pub mod Left
 pub mod Runs
+pub mod Histories
 pub mod Claims

@@ -1,28 +1,36 @@
 -- Phase one: proposals.
-use mathlib.Core.Bool.{Bool, true, false, _&&_, not, cond}
+use mathlib.Core.Bool.{Bool, _&&_, not, cond}
 use mathlib.Core.List.{List}
 use Prim.Native.Nat.{ℕ, zero, suc, _+_, _*_}
-use lib.Dec.{eqb, ltb, leb}
+use lib.Dec.{eqb, leb}
 use lib.ListN.{getD, set, replicate}
 use Rattle.sheet.specs.Square.{at}
+use Rattle.roommates.specs.declared.Stage.{Stage}
+use Rattle.roommates.specs.declared.Stage.the-variants.{Proposing}
 use Rattle.roommates.specs.Lists.{Square, row, listLength, bestBand, bandSize, strikeWorse, strikeBand}
 use Rattle.base.specs.Below.{anyBelow, countBelow, lowest}
 
--- A working: the lists, for each joint the band that it last proposed to (0 before its first step),
--- whether it ever received a proposal (1 or 0), the proposals made and the cuts.
+-- A working: its stage, the lists, for each joint the band that it last proposed to (0 before its first step), whether it ever
+-- received a proposal (1 or 0) and whether it is set aside (1 or 0), the proposals made and the cuts.
 pub record Work : Type 0 where
+  pub stage : Stage
   pub lists : Square
   pub reach : List ℕ
   pub received : List ℕ
+  pub aside : List ℕ
   pub proposals : ℕ
   pub cuts : ℕ
 
-abbrev pub work : Square → List ℕ → List ℕ → ℕ → ℕ → Work
-work t r g p c = record { lists = t; reach = r; received = g; proposals = p; cuts = c }
+abbrev pub work : Stage → Square → List ℕ → List ℕ → List ℕ → ℕ → ℕ → Work
+work s t r g a p c = record { stage = s; lists = t; reach = r; received = g; aside = a; proposals = p; cuts = c }
+
+-- no joint
+abbrev pub nobody : List ℕ
+nobody = replicate 128 0
 
 -- every listed pair, no proposal made or standing, both counts at nought
 abbrev pub fresh : Square → Work
-fresh t = work t (replicate 128 0) (replicate 128 0) 0 0
+fresh t = work Proposing t nobody nobody nobody 0 0
 
 -- A joint that last proposed to band k has a proposal standing at each joint which it still lists in band k:
 -- it proposes to a whole band at a time, steps again only when nothing of that band is left, and a strike ends
@@ -73,34 +81,24 @@ step n w p =
     let l = row (w .lists) p in
     let k = bestBand n l in
     let reach = set (w .reach) p k in
-    work (proposeAll n n l k reach (w .lists) p) reach (receiveAll n l k (w .received)) (w .proposals + bandSize n k l) (w .cuts)
+    work (w .stage) (proposeAll n n l k reach (w .lists) p) reach (receiveAll n l k (w .received)) (w .aside)
+    (w .proposals + bandSize n k l) (w .cuts)
 
--- How phase one stopped: with refusal 11, or else (0) at its end if nobody waits; the working; the choices used.
-pub record Ran : Type 0 where
-  pub refusal : ℕ
-  pub done : Bool
-  pub work-is : Work
-  pub used : ℕ
+-- the lowest joint that waits; n where nobody does
+abbrev pub lowestWaiting : ℕ → Work → ℕ
+lowestWaiting n w = lowest n (λ p. waits n w p)
 
-abbrev pub ran : ℕ → Bool → Work → ℕ → Ran
-ran r d w u = record { refusal = r; done = d; work-is = w; used = u }
-
--- The i-th step on: the i-th choice proposes, or the lowest that waits when choices have run out.
-unfoldable pub phaseOneFrom : ℕ → ℕ → Work → List ℕ → ℕ → Ran
-phaseOneFrom zero n w cs i = ran 0 false w i
-phaseOneFrom (suc f) n w cs i =
-    let low = lowest n (λ p. waits n w p) in
-    let p = getD cs i low in
-    let more = phaseOneFrom f n (step n w p) cs (suc i) in
-    let next = cond (ltb p n && waits n w p) more (ran 11 false w i) in
-    cond (eqb low n) (ran 0 true w i) next
+-- Phase one without choices: the lowest joint that waits steps, until nobody does.
+unfoldable pub runOut : ℕ → ℕ → Work → Work
+runOut zero n w = w
+runOut (suc f) n w = cond (eqb (lowestWaiting n w) n) w (runOut f n (step n w (lowestWaiting n w)))
 
 -- More steps than there can be: each makes a proposal, and there are at most n × n (Theorem few-proposals).
 abbrev pub fuel : ℕ → ℕ
 fuel n = suc (n * n)
 
-abbrev pub phaseOne : ℕ → Work → List ℕ → Ran
-phaseOne n w cs = phaseOneFrom (fuel n) n w cs 0
+abbrev pub phaseOne : ℕ → Work → Work
+phaseOne n w = runOut (fuel n) n w
 
 -- a received a proposal and has an empty list
 abbrev pub isEmptied : ℕ → Work → ℕ → Bool

@@ -1,15 +1,12 @@
 // Rows n and o of document 01.
-use crate::answers::Answer;
-use crate::answers::FILL;
-use crate::answers::answer_of;
 use crate::answers::call;
-use crate::answers::long;
+use crate::answers::is_same;
 use crate::answers::number_of;
-use crate::growing::none;
-use crate::places::ROWS;
-use reference::one;
+use crate::places;
+use crate::trying::none;
+use rules::FILL;
 use samples::sheet_of;
-use tally::add;
+use tally::compare;
 ghost use Prim.Native.Nat.{_≤_};
 
 // A sheet of n joints with no entries, and zeros after it. Labels are 0a, 0b and so on.
@@ -27,52 +24,46 @@ fn no_entries(n: usize) -> [u8; 2080]
     sheet
 }
 
-// How many bytes are 255.
-fn count_alone(out: [u8; 256]) -> u32 {
-    let mut count = 0;
+// A filled buffer, with 255 for each of 128 joints.
+fn alone() -> [u8; 256] {
+    let mut out = [FILL; 256];
     let mut i = 0;
-    while i < 256 {
-        count += one(out[i] == 255);
+    while i < 128 {
+        out[i] = 255;
         i += 1;
     }
-    count
+    out
 }
 
-// Four numbers from place `at` on: what settle answers, what bytes 0 and 1 are then, and how many are 255.
-fn add_row(counts: [u32; 40], at: usize, answer: Answer) -> [u32; 40]
-    requires { ⌜ at ≤ 36 ⌝ }
-{
-    let out = answer.out;
-    let one = add(counts, at, answer.number);
-    let two = add(one, at + 1, long(out[0]));
-    let three = add(two, at + 2, long(out[1]));
-    add(three, at + 3, count_alone(out))
-}
-
-// n joints with no entries.
-fn row_n(counts: [u32; 40], at: usize, n: usize) -> [u32; 40]
-    requires { ⌜ (at ≤ 36) × (n ≤ 129) ⌝ }
+// Settle on n joints with no entries: what it answers, and its buffer.
+fn row_n(sums: [u32; 40], n: usize, number: u32, due: [u8; 256]) -> [u32; 40]
+    requires { ⌜ n ≤ 129 ⌝ }
 {
     let sheet = no_entries(n);
     let mut out = [FILL; 256];
-    let number = number_of(&sheet[0..16 * n + 3], b"", true, &mut out);
-    add_row(counts, at, answer_of(number, n, out))
+    let said = number_of(&sheet[0..16 * n + 3], b"", true, &mut out);
+    let one = compare(sums, places::ROW_N, n as u32, said == number);
+    compare(one, places::ROW_N, n as u32, is_same(out, due))
 }
 
-// Two joints that list each other in this band.
-fn row_o(counts: [u32; 40], at: usize, band: u8) -> [u32; 40]
-    requires { ⌜ at ≤ 36 ⌝ }
-{
+// Settle on two joints that list each other in this band.
+fn row_o(sums: [u32; 40], band: u8, number: u32, due: [u8; 256]) -> [u32; 40] {
     let mut bands = [0u8; 64];
     bands[1] = band;
     bands[8] = band;
-    let sheet = sheet_of(2, bands);
-    add_row(counts, at, call(sheet, none(), true, 256))
+    let said = call(sheet_of(2, bands), none(), true, 256);
+    let out = said.out;
+    let one = compare(sums, places::ROW_O, band as u32, said.number == number);
+    compare(one, places::ROW_O, band as u32, is_same(out, due))
 }
 
-pub fn rows(counts: [u32; 40]) -> [u32; 40] {
-    let one = row_n(counts, ROWS, 128);
-    let two = row_n(one, ROWS + 4, 129);
-    let three = row_o(two, ROWS + 8, 127);
-    row_o(three, ROWS + 12, 128)
+pub fn rows(sums: [u32; 40]) -> [u32; 40] {
+    let filled = [FILL; 256];
+    let mut pair = [FILL; 256];
+    pair[0] = 1;
+    pair[1] = 0;
+    let one = row_n(sums, 128, rules::PAIRED, alone());
+    let two = row_n(one, 129, 2, filled);
+    let three = row_o(two, 127, rules::PAIRED + 1, pair);
+    row_o(three, 128, 5, filled)
 }

@@ -1,2 +1,2 @@
--- Whole workings, as the code hands them on.
-pub mod Workings
+-- What the code's contracts cite beside the definitions of the crates below.
+pub mod Lawful

@@ -1,75 +1,86 @@
-// Whole workings: phase one, and for settle phase two behind it.
-use choices::left_over;
-use cuts::phase_two;
-use proposals::phase_one;
-use proposals::some_emptied;
+// Whole workings: the choices' moves, then the rule's to the end. For the crates above, which prove what they require.
+use base::wide;
+use moves::make_move;
+use roommates::Stage;
+use stages::Place;
+use stages::begin;
 ghost use mathlib.Core.Path.{_≡_};
-ghost use Prim.Native.Nat.{_≤_};
-ghost use Rattle.steering.specs.Workings.{workOf, WorkedAs, RestIs};
+ghost use Rattle.sheet.specs.Square.{SquarePromise};
+ghost use Rattle.roommates.specs.Moves.{outcome, moves, concluded, turns, worked};
+ghost use Rattle.stages.specs.Places.{workAt, outcomeAt};
+ghost use Rattle.steering.specs.Lawful.{isOver, Standing};
 
-// The rest of a working where phase one has ended: none, shorten's lists, or phase two.
-fn go_on(
-    n: usize,
-    one: [[u8; 128]; 128],
-    received: &[u8; 128],
-    choices: &[u8],
-    used: usize,
-    whole: bool,
-    cuts: &mut usize,
-    refusal: &mut u8,
-    verdict: &mut u8,
-) -> [[u8; 128]; 128]
-    requires { ⌜ (n ≤ 128) × ((used ≤ 65536) × (now cuts ≡ 0)) ⌝ }
-    ensures { λ r. ⌜ RestIs whole n one (now (received .entry)) (now (choices .entry)) used r (now (cuts .exit)) (now (refusal .exit)) (now (verdict .exit)) ⌝ }
+fn is_over(stage: Stage) -> bool
+    ensures { λ r. ⌜ r ≡ isOver stage ⌝ }
 {
-    if some_emptied(n, &one, received) {
-        *verdict = 1;
-        *refusal = left_over(choices, used);
-        return one;
+    match stage {
+        Stage::Proposing => false,
+        Stage::Cutting => false,
+        Stage::NoneOne => true,
+        Stage::NoneTwo => true,
+        Stage::Paired => true,
     }
-    if whole {
-        return phase_two(n, one, choices, used, cuts, refusal, verdict);
-    }
-    *verdict = 3;
-    *refusal = left_over(choices, used);
-    one
 }
 
-// The working of n joints' lists, settle's if `whole`, else shorten's: the lists at its end, and how it ended.
+// The choices' moves, up to the first that is refused.
+fn choose(
+    n: usize,
+    lists: &mut [[u8; 128]; 128],
+    place: Place,
+    choices: &[u8],
+    whole: bool,
+) -> Place
+    requires { ⌜ Standing whole n (now lists) place ⌝ }
+    ensures { λ r. ⌜ outcomeAt (now (lists .exit)) r ≡ moves whole n (workAt (now (lists .entry)) place) (now (choices .entry)) ⌝ }
+    ensures { λ r. ⌜ (r .refusal ≡ 0 → Standing whole n (now (lists .exit)) r) ⌝ }
+{
+    let mut next = place;
+    let mut i = 0;
+    while i < choices.len() {
+        next = make_move(n, lists, next, wide(choices[i]), whole);
+        if next.refusal != 0 {
+            return next;
+        }
+        i += 1;
+    }
+    next
+}
+
+// The rule's moves, to the end.
+fn conclude(n: usize, lists: &mut [[u8; 128]; 128], place: Place, whole: bool) -> Place
+    requires { ⌜ Standing whole n (now lists) place ⌝ }
+    ensures { λ r. ⌜ outcomeAt (now (lists .exit)) r ≡ outcome 0 (concluded (turns n) whole n (workAt (now (lists .entry)) place)) ⌝ }
+{
+    let most = n * n + n * n + 1;
+    let mut next = place;
+    let mut i = 0;
+    while i < most {
+        let stage = next.stage;
+        if is_over(stage) {
+            return next;
+        }
+        next = make_move(n, lists, next, next.next, whole);
+        i += 1;
+    }
+    next
+}
+
+// The working of n joints' lists, settle's if `whole`, else shorten's: where it ends, and the lists left there.
 pub fn working(
     n: usize,
     bands: [[u8; 128]; 128],
     choices: &[u8],
     whole: bool,
-    refusal: &mut u8,
-    verdict: &mut u8,
-    proposals: &mut usize,
-    cuts: &mut usize,
-) -> [[u8; 128]; 128]
-    requires { ⌜ n ≤ 128 ⌝ }
-    ensures { λ r. ⌜ WorkedAs (now (refusal .exit)) (now (verdict .exit)) r (now (proposals .exit)) (now (cuts .exit))
-        (workOf whole n bands (now (choices .entry))) ⌝ }
+    left: &mut [[u8; 128]; 128],
+) -> Place
+    requires { ⌜ SquarePromise n bands ⌝ }
+    ensures { λ r. ⌜ outcomeAt (now (left .exit)) r ≡ worked whole n bands (now (choices .entry)) ⌝ }
 {
-    let mut reach = [0u8; 128];
-    let mut got = [0u8; 128];
-    let mut done = false;
-    let mut used = 0;
-    *verdict = 0;
-    *proposals = 0;
-    *cuts = 0;
-    let one = phase_one(
-        n,
-        bands,
-        &mut reach,
-        &mut got,
-        proposals,
-        choices,
-        refusal,
-        &mut done,
-        &mut used,
-    );
-    if !done {
-        return one;
+    *left = bands;
+    let first = begin(n, left, whole);
+    let chosen = choose(n, left, first, choices, whole);
+    if chosen.refusal != 0 {
+        return chosen;
     }
-    go_on(n, one, &got, choices, used, whole, cuts, refusal, verdict)
+    conclude(n, left, chosen, whole)
 }

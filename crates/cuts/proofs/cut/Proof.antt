@@ -18,7 +18,7 @@ first-on-requires : tie.Need-first-on-requires
 first-on-requires c κs = search needs
 
 trial-requires : tie.Need-trial-requires
-trial-requires c κs = let at = c .before .before in
+trial-requires c κs = let at = c .before .before .before in
     let some : 0 < at .args .n = omega arith in
     let inside : c .first-on .result < at .args .n = rw (c .first-on .ensures) (first-inside _ _ some) in
     omega (arith, at .pre)

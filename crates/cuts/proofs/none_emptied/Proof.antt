@@ -5,6 +5,7 @@ use mathlib.Core.Logic.{⊎-elim}
 use Prim.Native.Nat.{_≤_, _-_}
 use native.Mathlib.Omega.{arith}
 use lib.Dec.{eqb, leb}
+use lib.ListN.{getD}
 use Rattle.roommates.specs.PhaseTwo.{noneEmptied}
 use Rattle.base.proofs.Tests.{said-yes, said-no}
 use Rattle.base.specs.Below.{allBelow}
@@ -14,26 +15,23 @@ use Rattle.cuts.proofs.none_emptied.Statement.{statement}
 use Rattle.cuts.proofs.none_emptied.Tie as tie
 
 abbrev Inv-loop : tie.InvT-loop
-Inv-loop n one bands all₀ i₀ all i =
-    (i ≤ n) × (all ≡ allBelow i (λ a. eqb (listLength n (row one a)) 0 || leb 1 (listLength n (row bands a))))
+Inv-loop n aside bands all₀ i₀ all i =
+    (i ≤ n) × (all ≡ allBelow i (λ a. eqb (getD aside a 0) 1 || leb 1 (listLength n (row bands a))))
 
 abbrev μ-loop : tie.MeasureT-loop
-μ-loop n one bands all₀ i₀ all i = n - i
+μ-loop n aside bands all₀ i₀ all i = n - i
 
 loop-holds : tie.Need-loop-holds Inv-loop μ-loop
 loop-holds c = (omega arith, sym (all-zero _))
+
+element-copy-out-holds-one : tie.Need-element-copy-out-holds-one Inv-loop μ-loop
+element-copy-out-holds-one c = omega arith
 
 mul-holds-one : tie.Need-mul-holds-one Inv-loop μ-loop
 mul-holds-one c = omega arith
 
 index-1-holds-one : tie.Need-index-1-holds-one Inv-loop μ-loop
 index-1-holds-one c = omega arith
-
-mul-holds-one-2 : tie.Need-mul-holds-one-2 Inv-loop μ-loop
-mul-holds-one-2 c = omega arith
-
-index-1-holds-one-2 : tie.Need-index-1-holds-one-2 Inv-loop μ-loop
-index-1-holds-one-2 c = omega arith
 
 holds-one-requires : tie.Need-holds-one-requires Inv-loop μ-loop
 holds-one-requires c κs = omega arith
@@ -61,10 +59,9 @@ none-emptied-spec =
     Inv-loop
     μ-loop
     loop-holds
+    element-copy-out-holds-one
     mul-holds-one
     index-1-holds-one
-    mul-holds-one-2
-    index-1-holds-one-2
     holds-one-requires
     add-i
     loop-less

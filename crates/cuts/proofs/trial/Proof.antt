@@ -16,16 +16,12 @@ worst-band-requires c κs = search needs
 strike-requires : tie.Need-strike-requires
 strike-requires c κs = search needs
 
-slice-aggregate-phase-one : tie.Need-slice-aggregate-phase-one
-slice-aggregate-phase-one c = search needs
-
-phase-one-requires : tie.Need-phase-one-requires
-phase-one-requires c κs = search needs
+run-out-requires : tie.Need-run-out-requires
+run-out-requires c κs = search needs
 
 returns : tie.Need-returns
-returns c =
-    let struck = c .before .before .before .before .before .before .before .before in
-    one-trial _ _ _ (struck .before .before .worst-band .ensures) (struck .strike .ensures) (c .phase-one .ensures)
+returns c = let struck = c .before in
+    one-trial _ _ _ (struck .before .before .worst-band .ensures) (struck .strike .ensures) (c .run-out .ensures)
 
 pub trial-spec : {M : Type 1} → statement M
 trial-spec =
@@ -35,6 +31,5 @@ trial-spec =
     index-1-worst-band
     worst-band-requires
     strike-requires
-    slice-aggregate-phase-one
-    phase-one-requires
+    run-out-requires
     returns)

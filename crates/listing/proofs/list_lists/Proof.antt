@@ -77,7 +77,7 @@ write-pairing-requires c κs =
     let d = c .before .before in
     let s = start (paired-at d) in
     let p = paired d in
-    (record { labelled = rw (p .size) (s .pre .0); within = rw (p .size) (p .within) }, s .pre .1)
+    (record { labelled = rw (p .size) (s .pre .0); within = rw (p .size) (p .within) }, s .pre .1 .0)
 
 returns : tie.Need-returns
 returns c =

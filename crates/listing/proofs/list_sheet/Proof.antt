@@ -27,7 +27,8 @@ list-lists-requires : tie.Need-list-lists-requires
 list-lists-requires c κs =
     let f = c .before .before in
     let l = f .before .before .lists in
-    (listed-sheet _ _ _ (lists-as _ (l .ensures .0) _ (l .ensures .1) (f .found2 .given .1)) .labelled, omega arith)
+    let known = lists-as _ (l .ensures .0) _ (l .ensures .1) (f .found2 .given .1) in
+    (listed-sheet _ _ _ known .labelled, (omega arith, known .promise))
 
 returns : tie.Need-returns
 returns c =

@@ -49,7 +49,7 @@ loop-again c = ⊎-elim
 
 returns : tie.Need-returns Inv-loop μ-loop
 unfolding someEmptied
-returns c = λ r m k. let e : c .before .loop .i ≡ c .before .before .args .n = omega arith in rw e at (c .before .loop .inv .1)
+returns c = λ s r a m k. let e : c .before .loop .i ≡ c .before .before .args .n = omega arith in rw e at (c .before .loop .inv .1)
 
 pub some-emptied-spec : {M : Type 1} → statement M
 some-emptied-spec =

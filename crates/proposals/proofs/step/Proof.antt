@@ -41,7 +41,7 @@ returns c =
     let best = proposed .before .before .before .before in
     let start = best .before .before .before in
     let made = c .before .wide .ensures .0 ∙ sized .band-size .ensures in
-    one-step _ _ _ _ _ _ (best .best-band .ensures) (proposed .propose-all .ensures) (received .receive-all .ensures)
+    λ s a k. one-step _ s _ _ _ a _ k _ (best .best-band .ensures) (proposed .propose-all .ensures) (received .receive-all .ensures)
     (ap (λ x. start .args .proposals .now + x) made)
 
 pub step-spec : {M : Type 1} → statement M

@@ -3,7 +3,7 @@ use Prim.Native.Nat.{_≤_}
 use native.Mathlib.Omega.{arith}
 use borrow.Author.Needs.{needs}
 use borrow.Author.Tests.{eq-eqb, ne-eqb}
-use Rattle.roommates.specs.Working.{partnerOn}
+use Rattle.roommates.specs.Left.{partnerOn}
 use Rattle.base.proofs.Lowest.{lowest-at-most}
 use borrow.Author.Needs.{needs}
 use Rattle.results.proofs.partner_on.Statement.{statement}

@@ -4,7 +4,7 @@ use native.Mathlib.Omega.{arith}
 use lib.ListN.{length}
 use borrow.Author.Needs.{needs}
 use Rattle.writing.proofs.Writings.{nothing-wrote, wrote-append, wrote-length}
-use Rattle.roommates.specs.Working.{entry}
+use Rattle.roommates.specs.Left.{entry}
 use Rattle.results.proofs.LawsResults.{entry-none, entry-some}
 use Rattle.results.proofs.write_entry.Statement.{statement}
 use Rattle.results.proofs.write_entry.Tie as tie

@@ -7,7 +7,7 @@ use Rattle.base.specs.Below.{joined}
 use Rattle.writing.specs.Written.{Wrote}
 use Rattle.writing.proofs.Writings.{joined-none, joined-wrote, wrote-length, front-wrote}
 use Rattle.roommates.specs.Lists.{Square, row}
-use Rattle.roommates.specs.Working.{partnerOn, pairingOf}
+use Rattle.roommates.specs.Left.{partnerOn, pairingOf}
 use Rattle.roommates.proofs.PairsWritten.{pairing-length}
 use Rattle.results.proofs.write_partners.Statement.{statement}
 use Rattle.results.proofs.write_partners.Tie as tie

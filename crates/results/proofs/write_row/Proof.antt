@@ -5,7 +5,7 @@ use native.Mathlib.Omega.{arith}
 use Rattle.base.proofs.Joined.{joined-within}
 use Rattle.writing.specs.Written.{Wrote}
 use Rattle.writing.proofs.Writings.{joined-none, joined-wrote, wrote-length}
-use Rattle.roommates.specs.Working.{entry, rowEntries}
+use Rattle.roommates.specs.Left.{entry, rowEntries}
 use Rattle.results.proofs.write_row.Statement.{statement}
 use Rattle.results.proofs.write_row.Tie as tie
 

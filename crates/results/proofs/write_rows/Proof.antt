@@ -8,7 +8,7 @@ use Rattle.base.proofs.Joined.{joined-within}
 use Rattle.writing.specs.Written.{Wrote}
 use Rattle.writing.proofs.Writings.{joined-none, joined-wrote, wrote-length}
 use Rattle.roommates.specs.Lists.{Square, row}
-use Rattle.roommates.specs.Working.{rowEntries}
+use Rattle.roommates.specs.Left.{rowEntries}
 use Rattle.results.proofs.write_rows.Statement.{statement}
 use Rattle.results.proofs.write_rows.Tie as tie
 

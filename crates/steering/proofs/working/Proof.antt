@@ -1,32 +1,36 @@
--- A whole working: phase one stops it, or goes on.
-use native.Mathlib.Omega.{arith}
-use borrow.Author.Tests.{not-true, not-false}
-use Rattle.steering.proofs.LawsWorkings.{used-below, worked-as, worked-two, work-stopped, work-goes-on}
+-- A working begins, its choices are made, and unless one is refused the rule ends it.
 use borrow.Author.Needs.{needs}
+use Rattle.steering.proofs.LawsSteering.{begins, worked-refused, worked-out}
 use Rattle.steering.proofs.working.Statement.{statement}
 use Rattle.steering.proofs.working.Tie as tie
 
-phase-one-requires : tie.Need-phase-one-requires
-phase-one-requires c κs = search needs
+-- where the choices were made, and where the working had begun
+abbrev first : tie.After-choose → tie.After-begin
+first c = c .before .before
+
+abbrev start : tie.After-begin → tie.Start
+start b = b .before .before .before
+
+begin-requires : tie.Need-begin-requires
+begin-requires c κs = search needs
+
+choose-requires : tie.Need-choose-requires
+choose-requires c κs = let b = c .before in begins (start b .pre) (b .begin .ensures)
 
 returns : tie.Need-returns
-returns c = worked-as (work-stopped _ _ _ (c .before .phase-one .ensures) _ (not-true _ (c .if1 .taken)))
+returns c =
+    let m = c .before .before in
+    worked-refused _ _ _ _ (first m .begin .result) (m .choose .result) (first m .begin .ensures) (m .choose .ensures .0) (c .if1 .taken)
 
--- where phase one has ended
-abbrev phase : tie.Else1 → tie.After-phase-one
-phase c = c .before
-
-go-on-requires : tie.Need-go-on-requires
-go-on-requires c κs =
-    let one = phase (c .before .before .before .before) in
-    let start = one .before .before .before .before .before .before .before .before in
-    let h = used-below _ (start .pre) _ _ (one .phase-one .ensures) in
-    omega arith
+conclude-requires : tie.Need-conclude-requires
+conclude-requires c κs = let m = c .before .before .before in m .choose .ensures .1 (c .before .if1 .left)
 
 returns-2 : tie.Need-returns-2
 returns-2 c =
-    let ended = c .before .before .before .before .before in
-    worked-two (work-goes-on _ _ _ (phase ended .phase-one .ensures) _ (not-false _ (ended .if1 .left))) (c .go-on .ensures _ _)
+    let e = c .before .before in
+    let m = e .before .before in
+    worked-out _ _ _ _ (first m .begin .result) (m .choose .result) (first m .begin .ensures) (m .choose .ensures .0)
+    (c .conclude .result) (e .if1 .left) (c .conclude .ensures)
 
 pub working-spec : {M : Type 1} → statement M
-working-spec = tie.close (tie.spec phase-one-requires returns go-on-requires returns-2)
+working-spec = tie.close (tie.spec begin-requires choose-requires returns conclude-requires returns-2)

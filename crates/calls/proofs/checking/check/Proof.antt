@@ -2,7 +2,7 @@
 use borrow.Author.Needs.{needs}
 use Rattle.sheet.proofs.ReadAs.{lists-as, lists-refused}
 use Rattle.calls.proofs.LawsCalls.{check-read}
-use Rattle.calls.proofs.CheckKeeps.{check-refused}
+use Rattle.calls.proofs.LawsCalls.{check-refused}
 use Rattle.calls.proofs.checking.check.Statement.{statement}
 use Rattle.calls.proofs.checking.check.Tie as tie
 

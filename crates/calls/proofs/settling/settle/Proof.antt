@@ -24,7 +24,7 @@ settle-lists-requires c κs =
     let f = c .before .before in
     let l = f .before .before .lists in
     let known = lists-as _ (l .ensures .0) _ (l .ensures .1) (f .found2 .given .1) in
-    known .promise .few-joints
+    known .promise
 
 returns : tie.Need-returns
 returns c =

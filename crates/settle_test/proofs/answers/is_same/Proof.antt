@@ -5,10 +5,10 @@ use Rattle.settle_test.proofs.answers.is_same.Statement.{statement}
 use Rattle.settle_test.proofs.answers.is_same.Tie as tie
 
 abbrev Inv-loop : tie.InvT-loop
-Inv-loop one two a b i₀ i = i ≤ 256
+Inv-loop a b i₀ i = i ≤ 256
 
 abbrev μ-loop : tie.MeasureT-loop
-μ-loop one two a b i₀ i = 256 - i
+μ-loop a b i₀ i = 256 - i
 
 pub is-same-spec : {M : Type 1} → statement M
 is-same-spec =

@@ -1,0 +1,142 @@
+-- What check's answers mean, for every sheet s and offered pairing m.
+use mathlib.Core.Path.{_≡_, refl, sym, ap, _∙_}
+use mathlib.Core.Bool.{Bool, true, false, not}
+use mathlib.Core.List.{List}
+use mathlib.Core.Logic.{_≢_, _↔_}
+use mathlib.Core.Option.{Option, none, some}
+use Prim.Native.Nat.{ℕ, zero, suc, _≤_, _<_}
+use native.Mathlib.Omega.{arith}
+use lib.ListN.{length, getD}
+use Rattle.base.specs.Claims.{First}
+use Rattle.base.specs.Faults.{when, firstFault}
+use Rattle.base.proofs.Cases.{unlike}
+use Rattle.base.proofs.Faults.{first-answered, answered-at, first-none, fault-passes, last-fault}
+use Rattle.base.proofs.Tests.{never, not-so}
+use Rattle.sheet.specs.Format.{joints}
+use Rattle.sheet.specs.Refusals.{sheetFault}
+use Rattle.sheet.specs.Square.{at, squareOf}
+use Rattle.sheet.proofs.PromiseKept.{accepted-square}
+use Rattle.blocking.specs.declared.Checked.the-variants.{Refused, Holds, Blocked}
+use Rattle.matching.specs.Matchings.{partner, isMatching}
+use Rattle.blocking.specs.Blocking.{blockingPair}
+use Rattle.matching.specs.Plain.{Matching}
+use Rattle.blocking.specs.Plain.{SuperStable, LowestBlocking}
+use Rattle.blocking.specs.Answers.{verdictOf}
+use Rattle.matching.proofs.MatchingTest.{is-matching-means}
+use Rattle.blocking.proofs.LowestPair.{blocking-pair-lowest}
+use Rattle.blocking.proofs.SuperStableTest.{is-super-stable-means, super-stable-parts}
+use Rattle.calls.specs.Checks.{checkFaults, checkedAs, checkOf}
+use Rattle.promises.specs.Claims.{CheckKeeps}
+use Rattle.sheet.proofs.Numbers.{sheet-most}
+
+-- AN ANSWER by the first refusal and the lowest blocking pair
+checked-refused : (f k : ℕ) (o : Option ℕ) → checkedAs f o ≡ Refused k ↔ ((f ≡ k) × (1 ≤ k))
+checked-refused zero k none = (λ h. absurd (unlike cc), λ h. absurd (omega arith))
+checked-refused zero k (some x) = (λ h. absurd (unlike cc), λ h. absurd (omega arith))
+checked-refused (suc f) k o = (λ h. let e : suc f ≡ k = cc in (e, omega arith), λ h. ap Refused (h .0))
+
+checked-holds : (f : ℕ) (o : Option ℕ) → checkedAs f o ≡ Holds ↔ ((f ≡ 0) × (o ≡ none))
+checked-holds zero none = (λ h. (refl, refl), λ h. refl)
+checked-holds zero (some x) = (λ h. absurd (unlike cc), λ h. ap verdictOf (h .1))
+checked-holds (suc f) o = (λ h. absurd (unlike cc), λ h. absurd (omega arith))
+
+checked-blocked : (f k : ℕ) (o : Option ℕ) → checkedAs f o ≡ Blocked k ↔ ((f ≡ 0) × (o ≡ some k))
+checked-blocked zero k none = (λ h. absurd (unlike cc), λ h. ap verdictOf (h .1))
+checked-blocked zero k (some x) = (λ h. let e : x ≡ k = cc in (refl, ap some e), λ h. ap verdictOf (h .1))
+checked-blocked (suc f) k o = (λ h. absurd (unlike cc), λ h. absurd (omega arith))
+
+-- 10 or nothing
+abbrev ten : Bool → ℕ
+ten b = when (not b) 10
+
+ten-none : (b : Bool) → ten b ≡ 0 → b ≡ true
+ten-none true h = refl
+ten-none false h = absurd (omega arith)
+
+ten-is : (b : Bool) → ten b ≡ 10 → b ≡ false
+ten-is true h = absurd (omega arith)
+ten-is false h = refl
+
+ten-only : (b : Bool) (k : ℕ) → 1 ≤ k → k ≤ 9 → ten b ≢ k
+ten-only true k one few h = omega arith
+ten-only false k one few h = omega arith
+
+module _ (s m : List ℕ) where
+  abbrev n : ℕ
+  n = joints s
+
+  abbrev t : List (List ℕ)
+  t = squareOf s
+
+  abbrev pair : Option ℕ
+  pair = blockingPair n t m
+
+  -- no refusal: an accepted sheet and a matching
+  passes : firstFault (checkFaults s m) ≡ 0 ↔ ((sheetFault s ≡ 0) × (isMatching n t m ≡ true))
+  passes = (
+    λ h.
+        let (f, rest) = first-none (sheetFault s) _ h in
+        (f, ten-none _ (sym (last-fault _) ∙ rest)),
+    λ h. fault-passes _ _ (h .0) ∙ last-fault _ ∙ rw (h .1) refl,
+  )
+
+  first : (k : ℕ) → checkOf s m ≡ Refused k ↔ First k (checkFaults s m)
+  first k =
+      let a = checked-refused (firstFault (checkFaults s m)) k pair in
+      let b = first-answered (checkFaults s m) k in
+      (λ h. b .0 (a .0 h), λ h. a .1 (b .1 h))
+
+  by-sheet : (k : ℕ) → 1 ≤ k → k ≤ 8 → checkOf s m ≡ Refused k ↔ (sheetFault s ≡ k)
+  by-sheet k one few =
+      let a = checked-refused (firstFault (checkFaults s m)) k pair in
+      let at = answered-at (checkFaults s m) 0 k one others in
+      (λ h. at .0 (a .0 h .0) .0, λ e. a .1 (at .1 (e, λ l g. absurd (omega arith)), one))
+    where
+      others : (j : ℕ) → j ≢ 0 → ((l : ℕ) → l < j → getD (checkFaults s m) l 0 ≡ 0) → getD (checkFaults s m) j 0 ≢ k
+      others zero ne earlier = absurd (ne refl)
+      others (suc zero) ne earlier = ten-only (isMatching n t m) k one (omega arith)
+      others (suc (suc j)) ne earlier = λ e. omega arith
+
+  by-ten : checkOf s m ≡ Refused 10 ↔ ((sheetFault s ≡ 0) × ((length m ≡ n) × Matching n (at t) (partner m) → ⊥))
+  by-ten =
+      let a = checked-refused (firstFault (checkFaults s m)) 10 pair in
+      let r = answered-at (checkFaults s m) 1 10 (omega arith) others in (
+        λ h.
+            let w = r .0 (a .0 h .0) in
+            (w .1 0 (omega arith), λ x. never _ (is-matching-means n t m .1 x) (ten-is _ (w .0))),
+        λ h.
+            let none : isMatching n t m ≡ false = not-so (isMatching n t m) (λ q. h .1 (is-matching-means n t m .0 q)) in
+            a .1 (r .1 (rw none refl, λ l g. let e : l ≡ 0 = omega arith in rw e (h .0)), omega arith),
+      )
+    where
+      others : (j : ℕ) → j ≢ 1 → ((l : ℕ) → l < j → getD (checkFaults s m) l 0 ≡ 0) → getD (checkFaults s m) j 0 ≢ 10
+      others zero ne earlier = λ e. omega (arith, sheet-most s)
+      others (suc zero) ne earlier = absurd (ne refl)
+      others (suc (suc j)) ne earlier = λ e. omega arith
+
+  holds : checkOf s m ≡ Holds ↔ (sheetFault s ≡ 0) × (length m ≡ n) × SuperStable n (at t) (partner m)
+  holds =
+      let a = checked-holds (firstFault (checkFaults s m)) pair in (
+        λ h.
+            let (z, o) = a .0 h in
+            let (f, w) = passes .0 z in
+            let v = is-super-stable-means n t m (accepted-square s f) .0 (super-stable-parts n t m .1 (w, o)) in
+            (f, v .0, v .1),
+        λ h.
+            let w = super-stable-parts n t m .0 (is-super-stable-means n t m (accepted-square s (h .0)) .1 (h .1, h .2)) in
+            a .1 (passes .1 (h .0, w .0), w .1),
+      )
+
+  blocked : (k : ℕ) → checkOf s m ≡ Blocked k
+      ↔ (sheetFault s ≡ 0) × ((length m ≡ n) × Matching n (at t) (partner m)) × LowestBlocking n (at t) (partner m) k
+  blocked k =
+      let a = checked-blocked (firstFault (checkFaults s m)) k pair in (
+        λ h.
+            let (z, o) = a .0 h in
+            let (f, w) = passes .0 z in
+            (f, is-matching-means n t m .0 w, blocking-pair-lowest n t m k .0 o),
+        λ h. a .1 (passes .1 (h .0, is-matching-means n t m .1 (h .1)), blocking-pair-lowest n t m k .1 (h .2)),
+      )
+
+  pub check-keeps : CheckKeeps s m
+  check-keeps = record { check-first = first; check-sheet = by-sheet; check-ten = by-ten; check-holds = holds; check-blocked = blocked }

@@ -1,0 +1,8 @@
+-- What a caller may conclude, from the calls' definitions and the theory.
+pub mod Refusals
+pub mod CheckKeeps
+pub mod SettleKeeps
+pub mod ShortenKeeps
+pub mod CallsKeep
+-- the rows of document 01, by computation
+pub mod StarredRows

@@ -1,0 +1,137 @@
+-- What a caller of settle, shorten and the counts may conclude from their answers and from the buffer after them.
+use mathlib.Core.Path.{_≡_}
+use mathlib.Core.Bool.{Bool, true, false}
+use mathlib.Core.List.{List, [], _∷_, _++_}
+use mathlib.Core.Logic.{_⊎_, _≢_, _↔_}
+use Prim.Native.Nat.{ℕ, _+_, _*_, _/_, _%_, _≤_, _<_}
+use lib.Dec.{eqb}
+use lib.ListN.{length, take, drop}
+use Rattle.base.specs.Claims.{First}
+use Rattle.sheet.specs.Format.{joints, rankCount, countStart, entriesOf}
+use Rattle.sheet.specs.Refusals.{sheetFault}
+use Rattle.sheet.specs.Square.{at, squareOf}
+use Rattle.blocking.specs.declared.Checked.the-variants as C
+use Rattle.matching.specs.Matchings.{partner, pairCount}
+use Rattle.blocking.specs.Blocking.{isSuperStable}
+use Rattle.matching.specs.Plain.{Matching}
+use Rattle.blocking.specs.Plain.{SuperStable, LowestBlocking}
+use Rattle.roommates.specs.PhaseOne.{Work}
+use Rattle.roommates.specs.Moves.{worked}
+use Rattle.roommates.specs.Runs.{OneEnded, Arrived}
+use Rattle.roommates.specs.Histories.{proposalsIn, stepsTo, cutsTo}
+use Rattle.roommates.specs.Claims.{RefusedBy}
+use Rattle.relisting.specs.Written.{left, bytesOf, countBytes}
+use Rattle.relisting.specs.Claims.{SheetWith}
+use Rattle.calls.specs.Checks.{checkFaults, checkOf}
+use Rattle.calls.specs.declared.Phase.{Phase}
+use Rattle.calls.specs.declared.Phase.the-variants as P
+use Rattle.calls.specs.declared.End.the-variants as E
+use Rattle.calls.specs.declared.Settled.the-variants as S
+use Rattle.calls.specs.declared.Shortened.the-variants as L
+use Rattle.calls.specs.Calls.{settledNumber, shortenedNumber, settleCall, settleAnswer, settleBytes, shortenCall, shortenAnswer, shortenBytes, countsOf}
+
+-- m is a super-stable matching of the sheet s
+abbrev pub Super : List ℕ → List ℕ → Type 0
+Super s m = isSuperStable (joints s) (squareOf s) m ≡ true
+
+-- A pairing of k pairs: the first n bytes of the buffer `after`, which was `before`.
+pub record PairingIs (s before after : List ℕ) (k : ℕ) : Type 0 where
+  pub super-stable : Super s (take (joints s) after)
+  pub checked : checkOf s (take (joints s) after) ≡ C.Holds
+  pub pairs : pairCount (take (joints s) after) ≡ k
+  pub at-most : k ≤ 64
+  -- every super-stable matching pairs the same joints
+  pub same-joints : (m : List ℕ) → Super s m → (a : ℕ) → a < joints s → eqb (partner m a) 255 ≡ eqb (partner (take (joints s) after) a) 255
+  -- the bytes past it are unchanged
+  pub past : drop (joints s) after ≡ drop (joints s) before
+  pub same-length : length after ≡ length before
+
+-- The shortened lists, of k entries: the first 2 + 3 × k bytes of the buffer `after`, which was `before`.
+pub record ListsAre (s before after : List ℕ) (k : ℕ) : Type 0 where
+  -- where phase one ended
+  pub end : Work
+  pub ended : OneEnded (joints s) (squareOf s) end
+  -- the entries of the sheet whose pairs are not struck there, with the sheet's bands and in the sheet's order, after their count
+  pub entries : take (2 + 3 * k) after ≡ countBytes k ++ bytesOf (left (end .lists) (entriesOf s))
+  pub how-many : length (left (end .lists) (entriesOf s)) ≡ k
+  -- a sheet with the same labels and these bytes as its rankings is accepted, with the lists left as its square
+  pub reads-back : SheetWith s (end .lists) (take (countStart s) s ++ take (2 + 3 * k) after)
+  pub at-most : k ≤ 128 * 127
+  pub count-first : take 2 after ≡ (k % 256) ∷ ((k / 256) ∷ [])
+  pub past : drop (2 + 3 * k) after ≡ drop (2 + 3 * k) before
+  pub same-length : length after ≡ length before
+
+-- The counts of an accepted sheet's working: the joints that its steps reached, and its cuts, one that ends in none included.
+pub record CountsAre (whole : Bool) (s cs : List ℕ) : Type 0 where
+  pub arrived : Arrived whole (joints s) (squareOf s) (worked whole (joints s) (squareOf s) cs .work-is)
+  pub proposals-are : countsOf whole s cs .proposals ≡ proposalsIn (stepsTo arrived .1)
+  pub cuts-are : countsOf whole s cs .cuts ≡ cutsTo arrived
+
+-- When a call refuses, number by number and both ways. The sheet's own refusal is f (0 for none), `choice` is the one that the counts name beside the working,
+-- and `need` bytes are due in a buffer of `room`.
+pub record Refuses (f choice need room : ℕ) (Refused : ℕ → Type 0) : Type 0 where
+  pub numbers : (k : ℕ) → Refused k → ((1 ≤ k) × (k ≤ 9)) ⊎ ((11 ≤ k) × (k ≤ 13))
+  pub by-sheet : (k : ℕ) → 1 ≤ k → k ≤ 8 → Refused k ↔ (f ≡ k)
+  pub by-buffer : Refused 9 ↔ ((f ≡ 0) × (room < need))
+  pub by-choice : (k : ℕ) → 11 ≤ k → Refused k ↔ ((need ≤ room) × (choice ≡ k))
+
+pub record CallsKeep (s : List ℕ) : Type 0 where
+  -- SETTLE. A pairing is super-stable. After none every matching is blocked, and none and a refusal write nothing.
+  pub settle-paired : (cs out : List ℕ) (k : ℕ) → settleAnswer s cs out ≡ S.Ended (E.Paired k) → PairingIs s out (settleBytes s cs out) k
+  pub settle-none : (cs out : List ℕ) (p : Phase) → settleAnswer s cs out ≡ S.Ended (E.None p)
+      → (settleBytes s cs out ≡ out) × ((m : List ℕ) → (isSuperStable (joints s) (squareOf s) m ≡ false) × (checkOf s m ≢ C.Holds))
+  pub settle-refused : (cs out : List ℕ) (k : ℕ) → settleAnswer s cs out ≡ S.Refused k → settleBytes s cs out ≡ out
+  -- the first of its refusals is answered, and with no other number
+  pub settle-first : (cs out : List ℕ) (k : ℕ) → settleAnswer s cs out ≡ S.Refused k ↔ First k (settleCall s cs out .faults)
+  pub settle-refuses : (cs out : List ℕ)
+      → Refuses (sheetFault s) (countsOf true s cs .number) (joints s) (length out) (λ k. settleAnswer s cs out ≡ S.Refused k)
+  -- two calls that refuse nothing: the same verdict, phase and count of pairs
+  pub settle-same : (cs ds out out′ : List ℕ) → settledNumber (settleAnswer s cs out) ≡ 0 → settledNumber (settleAnswer s ds out′) ≡ 0
+      → settleAnswer s cs out ≡ settleAnswer s ds out′
+  -- SHORTEN. Only lists are written.
+  pub shorten-lists : (cs out : List ℕ) (k : ℕ) → shortenAnswer s cs out ≡ L.Lists k → ListsAre s out (shortenBytes s cs out) k
+  pub shorten-none : (cs out : List ℕ) → shortenAnswer s cs out ≡ L.None → shortenBytes s cs out ≡ out
+  pub shorten-refused : (cs out : List ℕ) (k : ℕ) → shortenAnswer s cs out ≡ L.Refused k → shortenBytes s cs out ≡ out
+  pub shorten-first : (cs out : List ℕ) (k : ℕ) → shortenAnswer s cs out ≡ L.Refused k ↔ First k (shortenCall s cs out .faults)
+  pub shorten-refuses : (cs out : List ℕ)
+      → Refuses (sheetFault s) (countsOf false s cs .number) (2 + 3 * rankCount s) (length out) (λ k. shortenAnswer s cs out ≡ L.Refused k)
+  pub shorten-not-12 : (cs out : List ℕ) → shortenAnswer s cs out ≢ L.Refused 12
+  -- two calls that refuse nothing: the same answer, and the same bytes written
+  pub shorten-same : (cs ds out out′ : List ℕ) → shortenedNumber (shortenAnswer s cs out) ≡ 0 → shortenedNumber (shortenAnswer s ds out′) ≡ 0
+      → shortenAnswer s cs out ≡ shortenAnswer s ds out′
+  pub same-bytes : (cs ds out out′ : List ℕ) (k : ℕ) → shortenAnswer s cs out ≡ L.Lists k → shortenAnswer s ds out′ ≡ L.Lists k
+      → take (2 + 3 * k) (shortenBytes s cs out) ≡ take (2 + 3 * k) (shortenBytes s ds out′)
+  -- shorten says none exactly where settle says none in phase one
+  pub same-none : (cs ds out out′ : List ℕ) → shortenedNumber (shortenAnswer s cs out) ≡ 0 → settledNumber (settleAnswer s ds out′) ≡ 0
+      → (shortenAnswer s cs out ≡ L.None) ↔ (settleAnswer s ds out′ ≡ S.Ended (E.None P.One))
+  -- a beginning of choices within the rules is within them
+  pub settle-beginning : (cs ds out : List ℕ) → settledNumber (settleAnswer s (cs ++ ds) out) ≡ 0 → settledNumber (settleAnswer s cs out) ≡ 0
+  pub shorten-beginning : (cs ds out : List ℕ) → shortenedNumber (shortenAnswer s (cs ++ ds) out) ≡ 0 → shortenedNumber (shortenAnswer s cs out) ≡ 0
+  -- 11, 12 and 13: some choice, after the ones before it were made, may not be chosen, for the reason that the number says
+  pub choice-refused : (whole : Bool) (cs : List ℕ) (k : ℕ) → 11 ≤ k
+      → (countsOf whole s cs .number ≡ k) ↔ ((sheetFault s ≡ 0) × RefusedBy whole (joints s) (squareOf s) cs k)
+  -- COUNTS, beside refused choices too: of settle's working (true) and of shorten's (false)
+  pub counts-are : (whole : Bool) (cs : List ℕ) → sheetFault s ≡ 0 → CountsAre whole s cs
+  pub few-proposals : (whole : Bool) (cs : List ℕ) → countsOf whole s cs .proposals ≤ joints s * joints s
+  pub few-cuts : (whole : Bool) (cs : List ℕ) → 2 * countsOf whole s cs .cuts ≤ rankCount s
+  pub no-cuts : (cs : List ℕ) → countsOf false s cs .cuts ≡ 0
+  -- both are small whatever the sheet
+  pub counts-small : (whole : Bool) (cs : List ℕ) → (countsOf whole s cs .proposals ≤ 16384) × (countsOf whole s cs .cuts ≤ 16384)
+  -- without choices no accepted sheet is refused
+  pub no-choices : (whole : Bool) → sheetFault s ≡ 0 → countsOf whole s [] .number ≡ 0
+
+-- CHECK, for every sheet s and offered pairing m.
+pub record CheckKeeps (s m : List ℕ) : Type 0 where
+  pub check-first : (k : ℕ) → checkOf s m ≡ C.Refused k ↔ First k (checkFaults s m)
+  -- a refused sheet hands on its number; 10: the sheet is accepted, and what is offered is no matching
+  pub check-sheet : (k : ℕ) → 1 ≤ k → k ≤ 8 → checkOf s m ≡ C.Refused k ↔ (sheetFault s ≡ k)
+  pub check-ten : checkOf s m ≡ C.Refused 10
+      ↔ ((sheetFault s ≡ 0) × ((length m ≡ joints s) × Matching (joints s) (at (squareOf s)) (partner m) → ⊥))
+  -- holds: the sheet is accepted, and what is offered is super-stable
+  pub check-holds : checkOf s m ≡ C.Holds
+      ↔ (sheetFault s ≡ 0) × (length m ≡ joints s) × SuperStable (joints s) (at (squareOf s)) (partner m)
+  -- blocked: the sheet is accepted, what is offered is a matching, and the number is that of the lowest blocking pair
+  pub check-blocked : (k : ℕ) → checkOf s m ≡ C.Blocked k
+      ↔ (sheetFault s ≡ 0)
+      × ((length m ≡ joints s) × Matching (joints s) (at (squareOf s)) (partner m))
+      × LowestBlocking (joints s) (at (squareOf s)) (partner m) k

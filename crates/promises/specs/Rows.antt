@@ -1,0 +1,160 @@
+-- The starred rows of document 01, "Sheets to try", and rows of the same sheets that call shorten and the counts: for each call what it
+-- answers, and the buffer before and after settle and shorten.
+use mathlib.Core.Path.{_≡_}
+use mathlib.Core.Bool.{Bool, true, false, _||_, cond}
+use mathlib.Core.List.{List, [], _∷_, _++_}
+use Prim.Native.Nat.{ℕ, suc, _+_, _%_, _/_}
+use lib.Dec.{eqb}
+use lib.ListN.{length, replicate}
+use Rattle.base.specs.Below.{joined}
+use Rattle.blocking.specs.declared.Checked.{Checked}
+use Rattle.blocking.specs.declared.Checked.the-variants as C
+use Rattle.calls.specs.Checks.{checkOf}
+use Rattle.calls.specs.declared.Phase.the-variants as P
+use Rattle.calls.specs.declared.End.the-variants as E
+use Rattle.calls.specs.declared.Settled.{Settled}
+use Rattle.calls.specs.declared.Settled.the-variants as S
+use Rattle.calls.specs.declared.Shortened.{Shortened}
+use Rattle.calls.specs.declared.Shortened.the-variants as L
+use Rattle.calls.specs.Calls.{settleAnswer, settleBytes, shortenAnswer, shortenBytes, counts, countsOf}
+
+-- A joint's list as document 01 writes it: from the best to the worst band, each with the joints that are tied in it.
+abbrev pub Ranks : Type 0
+Ranks = List (List ℕ)
+
+unfoldable pub isIn : ℕ → List ℕ → Bool
+isIn b [] = false
+isIn b (c ∷ cs) = eqb b c || isIn b cs
+
+-- the band of b, where the first band is k; 0 for unlisted
+unfoldable pub bandFrom : ℕ → Ranks → ℕ → ℕ
+bandFrom k [] b = 0
+bandFrom k (tied ∷ worse) b = cond (isIn b tied) k (bandFrom (suc k) worse b)
+
+-- a's entries, as bytes, with the candidates below n; those of the joints from a on, n in all
+abbrev pub entriesBelow : ℕ → ℕ → Ranks → List ℕ
+entriesBelow n a l = joined n (λ b. cond (eqb (bandFrom 1 l b) 0) [] (a ∷ b ∷ bandFrom 1 l b ∷ []))
+
+unfoldable pub entriesOnward : ℕ → ℕ → List Ranks → List ℕ
+entriesOnward n a [] = []
+entriesOnward n a (l ∷ lists) = entriesBelow n a l ++ entriesOnward n (suc a) lists
+
+-- n labels a, b, c, ..: a letter, then 15 zero bytes
+abbrev pub letters : ℕ → List ℕ
+letters n = joined n (λ i. (97 + i) ∷ replicate 15 0)
+
+-- the sheet of such lists: each section after its count
+abbrev pub counted : List ℕ → List ℕ
+counted bytes = (length bytes / 3 % 256) ∷ (length bytes / 3 / 256) ∷ bytes
+
+unfoldable pub sheetOf : List Ranks → List ℕ
+sheetOf lists = length lists ∷ letters (length lists) ++ counted (entriesOnward (length lists) 0 lists)
+
+-- bands of one, two and three joints
+abbrev pub only : ℕ → List ℕ
+only a = a ∷ []
+
+abbrev pub tie : ℕ → ℕ → List ℕ
+tie a b = a ∷ b ∷ []
+
+abbrev pub tie₃ : ℕ → ℕ → ℕ → List ℕ
+tie₃ a b c = a ∷ b ∷ c ∷ []
+
+-- THE SHEETS, by the row that first has them: n = 0; one joint, no entries; then the lists of joints 0, 1, 2, 3
+abbrev pub sheet-a : List ℕ
+sheet-a = sheetOf []
+
+abbrev pub sheet-b : List ℕ
+sheet-b = sheetOf ([] ∷ [])
+
+abbrev pub sheet-c : List ℕ
+sheet-c = sheetOf ((only 1 ∷ []) ∷ (only 0 ∷ []) ∷ [])
+
+abbrev pub sheet-d : List ℕ
+sheet-d = sheetOf ((tie 1 2 ∷ []) ∷ (tie 0 2 ∷ []) ∷ (tie 0 1 ∷ []) ∷ [])
+
+abbrev pub sheet-e : List ℕ
+sheet-e = sheetOf ((only 3 ∷ only 2 ∷ []) ∷ (only 3 ∷ []) ∷ (only 0 ∷ []) ∷ (tie 0 1 ∷ []) ∷ [])
+
+abbrev pub sheet-f : List ℕ
+sheet-f =
+    sheetOf
+    ((only 1 ∷ only 2 ∷ only 3 ∷ [])
+    ∷ (only 2 ∷ only 0 ∷ only 3 ∷ [])
+    ∷ (only 0 ∷ only 1 ∷ only 3 ∷ [])
+    ∷ (tie₃ 0 1 2 ∷ [])
+    ∷ [])
+
+abbrev pub sheet-g : List ℕ
+sheet-g = sheetOf ((only 1 ∷ only 3 ∷ []) ∷ (only 2 ∷ only 0 ∷ []) ∷ (only 3 ∷ only 1 ∷ []) ∷ (only 0 ∷ only 2 ∷ []) ∷ [])
+
+abbrev pub sheet-i : List ℕ
+sheet-i =
+    sheetOf ((only 1 ∷ tie 2 3 ∷ []) ∷ (only 0 ∷ tie 2 3 ∷ []) ∷ (only 3 ∷ tie 0 1 ∷ []) ∷ (only 2 ∷ tie 0 1 ∷ []) ∷ [])
+
+-- A ROW: settle or shorten with its choices and buffer, its answer and the buffer after it; check with a pairing, and its answer; the counts
+-- of settle's working (true) or shorten's: the number of a refused choice, proposals, cuts.
+pub data Row : Type 0 where
+  settle-row : (sheet choices before : List ℕ) → Settled → (after : List ℕ) → Row
+  shorten-row : (sheet choices before : List ℕ) → Shortened → (after : List ℕ) → Row
+  check-row : (sheet pairing : List ℕ) → Checked → Row
+  counts-row : (whole : Bool) (sheet choices : List ℕ) → (number made cut : ℕ) → Row
+
+abbrev pub Holds : Row → Type 0
+Holds (settle-row s cs before answer after) = (settleAnswer s cs before ≡ answer) × (settleBytes s cs before ≡ after)
+Holds (shorten-row s cs before answer after) = (shortenAnswer s cs before ≡ answer) × (shortenBytes s cs before ≡ after)
+Holds (check-row s m answer) = checkOf s m ≡ answer
+Holds (counts-row whole s cs number made cut) = countsOf whole s cs ≡ counts number made cut
+
+abbrev pub AllHold : List Row → Type 0
+AllHold [] = record {}
+AllHold (r ∷ rs) = Holds r × AllHold rs
+
+-- a buffer of b bytes, before a call
+abbrev pub buffer : ℕ → List ℕ
+buffer b = replicate b 9
+
+-- an entry before others: joint, candidate, band
+abbrev pub entry : ℕ → ℕ → ℕ → List ℕ → List ℕ
+entry a b k rest = a ∷ b ∷ k ∷ rest
+
+-- THE TABLE. Each buffer has two bytes more than there need be: they stay 9, and so do those of entries that are struck.
+abbrev pub rows : List Row
+rows =
+    -- a, b, c
+    settle-row sheet-a [] (buffer 2) (S.Ended (E.Paired 0)) (9 ∷ 9 ∷ [])
+    ∷ settle-row sheet-b [] (buffer 3) (S.Ended (E.Paired 0)) (255 ∷ 9 ∷ 9 ∷ [])
+    ∷ settle-row sheet-c [] (buffer 4) (S.Ended (E.Paired 1)) (1 ∷ 0 ∷ 9 ∷ 9 ∷ [])
+    -- d, e, f
+    ∷ settle-row sheet-d [] (buffer 5) (S.Ended (E.None P.One)) (buffer 5)
+    ∷ settle-row sheet-e [] (buffer 6) (S.Ended (E.None P.One)) (buffer 6)
+    ∷ settle-row sheet-f [] (buffer 6) (S.Ended (E.None P.Two)) (buffer 6)
+    -- g, h, i
+    ∷ settle-row sheet-g [] (buffer 6) (S.Ended (E.Paired 2)) (3 ∷ 2 ∷ 1 ∷ 0 ∷ 9 ∷ 9 ∷ [])
+    ∷ settle-row sheet-g (0 ∷ 1 ∷ 2 ∷ 3 ∷ 1 ∷ []) (buffer 6) (S.Ended (E.Paired 2)) (1 ∷ 0 ∷ 3 ∷ 2 ∷ 9 ∷ 9 ∷ [])
+    ∷ settle-row sheet-i [] (buffer 6) (S.Ended (E.Paired 2)) (1 ∷ 0 ∷ 3 ∷ 2 ∷ 9 ∷ 9 ∷ [])
+    -- j
+    ∷ check-row sheet-g (1 ∷ 0 ∷ 255 ∷ 255 ∷ []) (C.Blocked 2)
+    -- k, l, m
+    ∷ settle-row sheet-c (0 ∷ 1 ∷ 0 ∷ []) (buffer 4) (S.Refused 13) (buffer 4)
+    ∷ settle-row sheet-g (0 ∷ 0 ∷ []) (buffer 6) (S.Refused 11) (buffer 6)
+    ∷ settle-row sheet-f (0 ∷ 1 ∷ 2 ∷ 3 ∷ []) (buffer 6) (S.Refused 12) (buffer 6)
+    -- shorten: g, where nothing is struck; f, where joint 3 goes; i, where the ties go; d, none; c and g, where the choice is past phase one
+    ∷ shorten-row sheet-g [] (buffer 28) (L.Lists 8)
+    (8 ∷ 0 ∷ entry 0 1 1 (entry 0 3 2 (entry 1 0 2 (entry 1 2 1 (entry 2 1 2 (entry 2 3 1 (entry 3 0 1 (entry 3 2 2 (buffer 2)))))))))
+    ∷ shorten-row sheet-f [] (buffer 40) (L.Lists 6)
+    (6 ∷ 0 ∷ entry 0 1 1 (entry 0 2 2 (entry 1 0 2 (entry 1 2 1 (entry 2 0 1 (entry 2 1 2 (buffer 20)))))))
+    ∷ shorten-row sheet-i [] (buffer 40) (L.Lists 4) (4 ∷ 0 ∷ entry 0 1 1 (entry 1 0 1 (entry 2 3 1 (entry 3 2 1 (buffer 26)))))
+    ∷ shorten-row sheet-d [] (buffer 22) L.None (buffer 22)
+    ∷ shorten-row sheet-c (0 ∷ 1 ∷ 0 ∷ []) (buffer 10) (L.Refused 13) (buffer 10)
+    ∷ shorten-row sheet-g (0 ∷ 1 ∷ 2 ∷ 3 ∷ 0 ∷ []) (buffer 28) (L.Refused 13) (buffer 28)
+    -- the counts: d, two steps of two proposals each; f, a cut that ends in none; g, settle's and shorten's; beside 11, 12 and 13
+    ∷ counts-row true sheet-d [] 0 4 0
+    ∷ counts-row true sheet-f [] 0 3 1
+    ∷ counts-row true sheet-g [] 0 4 1
+    ∷ counts-row false sheet-g [] 0 4 0
+    ∷ counts-row true sheet-g (0 ∷ 0 ∷ []) 11 1 0
+    ∷ counts-row true sheet-f (0 ∷ 1 ∷ 2 ∷ 3 ∷ []) 12 3 0
+    ∷ counts-row true sheet-d (0 ∷ 1 ∷ 0 ∷ []) 13 4 0
+    ∷ counts-row true sheet-f (0 ∷ 1 ∷ 2 ∷ 0 ∷ 0 ∷ []) 13 3 1
+    ∷ []

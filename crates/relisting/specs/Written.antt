@@ -1,0 +1,37 @@
+-- The entries of a sheet that are left where pairs are struck, and the sheet that has them as its rankings.
+use mathlib.Core.Path.{_≡_}
+use mathlib.Core.Bool.{cond}
+use mathlib.Core.List.{List, [], _∷_, _++_}
+use mathlib.Core.Logic.{_⊎_}
+use Prim.Native.Nat.{ℕ, _/_, _%_, _<_}
+use lib.Dec.{ltb}
+use lib.ListN.{length, take}
+use Rattle.sections.specs.declared.Entry.{Entry}
+use Rattle.sheet.specs.Format.{joints, countStart}
+use Rattle.sheet.specs.Square.{at}
+use Rattle.roommates.specs.Lists.{Square, row}
+use Rattle.roommates.specs.Left.{listBytes}
+
+-- u is t with some pairs struck: a place is as it was, or both places of its pair are 0.
+pub record PairsStruck (t u : Square) : Type 0 where
+  pub rows : length u ≡ 128
+  pub row-length : (a : ℕ) → a < 128 → length (row u a) ≡ 128
+  pub places : (a b : ℕ) → (at u a b ≡ at t a b) ⊎ ((at u a b ≡ 0) × (at u b a ≡ 0))
+
+-- those of the entries whose pairs are not struck, in their order
+unfoldable pub left : Square → List Entry → List Entry
+left u [] = []
+left u (e ∷ es) = cond (ltb 0 (at u (e .joint) (e .other))) (e ∷ left u es) (left u es)
+
+-- entries as a sheet has them, three bytes each: joint, candidate, band
+unfoldable pub bytesOf : List Entry → List ℕ
+bytesOf [] = []
+bytesOf (e ∷ es) = e .joint ∷ (e .other ∷ (e .band ∷ bytesOf es))
+
+-- a count, two bytes, low byte first
+abbrev pub countBytes : ℕ → List ℕ
+countBytes k = (k % 256) ∷ ((k / 256) ∷ [])
+
+-- the sheet s with the lists u as its rankings: its joints and labels, then what shorten writes
+unfoldable pub relisted : List ℕ → Square → List ℕ
+relisted s u = take (countStart s) s ++ listBytes (joints s) u
