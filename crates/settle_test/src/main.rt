@@ -115,7 +115,6 @@ sheets: #\n\
 pairing, none phase 1, none phase 2: # # #\n\
 super-stable matchings, sheets with more than one: # #\n\
 proposals, cuts: # #\n\
-lists of choices grown, drawn: # #\n\
 settle within the rules, refused 9, 11, 12, 13: # # # # #\n\
 shorten within the rules, refused 9, 11, 12, 13: # # # # #\n",
         counts,

@@ -21,14 +21,10 @@ pub const PROPOSALS: usize = 9;
 
 pub const CUTS: usize = 10;
 
-pub const GROWN: usize = 11;
-
-pub const DRAWN: usize = 12;
-
 // What the calls answer: within the rules, refused with 9, 11, 12, 13.
-pub const SETTLE: usize = 13;
+pub const SETTLE: usize = 11;
 
-pub const SHORTEN: usize = 18;
+pub const SHORTEN: usize = 16;
 
 // The library beside the rules: its answer, its buffer, its counts.
 pub const ANSWER: u32 = 1;

@@ -9,7 +9,6 @@ use rules::Answer;
 use rules::Work;
 use samples::Sheet;
 use samples::next;
-use tally::add;
 use tally::compare;
 
 // A list of choices, and the two workings after it.
@@ -118,7 +117,7 @@ fn any_of(set: u64, x: u32) -> u8 {
 
 // A list that grows by joints that are allowed until settle's working has ended. Each is tried, and with any byte after it.
 fn try_grown(case: Case, counts: [u32; 40], seed: u32) -> [u32; 40] {
-    let mut sums = add(counts, places::GROWN, 1);
+    let mut sums = counts;
     let mut walk = start(case.sheet);
     let mut x = seed;
     let mut i: u32 = 0;
@@ -147,7 +146,7 @@ fn try_drawn(case: Case, sums: [u32; 40], x: u32) -> [u32; 40] {
         walk = with(walk, any_byte(y, case.sheet.n));
         i += 1;
     }
-    try_walk(case, add(sums, places::DRAWN, 1), walk)
+    try_walk(case, sums, walk)
 }
 
 // How long a call's buffer must be, n or 2 + 3 × m, before its working.

@@ -25,5 +25,4 @@ try-drawn-spec =
     (λ c. omega arith)
     (λ c. omega arith)
     (λ c κs. tt)
-    (λ c κs. tt)
     (λ c. tt))

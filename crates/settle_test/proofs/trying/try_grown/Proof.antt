@@ -17,7 +17,6 @@ try-grown-spec =
     Inv-loop
     μ-loop
     (λ c κs. tt)
-    (λ c κs. tt)
     (λ c. omega arith)
     (λ c κs. tt)
     (λ c κs. omega arith)
