@@ -96,7 +96,32 @@ pub fn may_step(n: usize, bands: &[[u8; 128]; 128], reach: &[u8; 128], p: usize)
     list_waits(n, reach[p], &bands[p])
 }
 
-// The lists that phase one leaves without choices: the lowest joint that waits steps, until nobody does.
+// Phase one without choices: the lowest joint that waits steps, until nobody does.
+pub fn run_on(
+    n: usize,
+    bands: &mut [[u8; 128]; 128],
+    reach: &mut [u8; 128],
+    received: &mut [u8; 128],
+    proposals: &mut usize,
+)
+    requires { ⌜ (n ≤ 128) × (now proposals ≤ 65536) ⌝ }
+    ensures { λ _. ⌜ ((s : Stage) (aside : List ℕ) (c : ℕ)
+        → work s (now (bands .exit)) (now (reach .exit)) (now (received .exit)) aside (now (proposals .exit)) c
+        ≡ phaseOne n (work s (now (bands .entry)) (now (reach .entry)) (now (received .entry)) aside (now (proposals .entry)) c)) ⌝ }
+{
+    let turns = n * n + 1;
+    let mut i = 0;
+    while i < turns {
+        let p = lowest_waiting(n, bands, reach);
+        if p == n {
+            return;
+        }
+        step(n, bands, reach, received, proposals, p);
+        i += 1;
+    }
+}
+
+// The lists that it leaves, from fresh ones.
 pub fn run_out(n: usize, bands: [[u8; 128]; 128]) -> [[u8; 128]; 128]
     requires { ⌜ n ≤ 128 ⌝ }
     ensures { λ r. ⌜ r ≡ phaseOne n (fresh bands) .lists ⌝ }
@@ -105,16 +130,7 @@ pub fn run_out(n: usize, bands: [[u8; 128]; 128]) -> [[u8; 128]; 128]
     let mut reach = [0u8; 128];
     let mut received = [0u8; 128];
     let mut proposals = 0;
-    let turns = n * n + 1;
-    let mut i = 0;
-    while i < turns {
-        let p = lowest_waiting(n, &lists, &reach);
-        if p == n {
-            return lists;
-        }
-        step(n, &mut lists, &mut reach, &mut received, &mut proposals, p);
-        i += 1;
-    }
+    run_on(n, &mut lists, &mut reach, &mut received, &mut proposals);
     lists
 }
 

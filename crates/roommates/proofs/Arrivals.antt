@@ -52,7 +52,7 @@ at-stage s b = record {
   cuts-are = b .cuts-are;
 }
 
-step-stage : (n : ℕ) (w : Work) (p : ℕ) → step n w p .stage ≡ w .stage
+pub step-stage : (n : ℕ) (w : Work) (p : ℕ) → step n w p .stage ≡ w .stage
 unfolding step
 step-stage n w p = refl
 
@@ -87,7 +87,7 @@ module _ {whole : Bool} {n : ℕ} {t : Square} where
       })
       (λ h. lists-left h w refl e ok))
 
-  one-arrives : {w : Work} → w .stage ≡ Proposing → Run n (fresh t) w → Arrived whole n t (inOne whole n w)
+  pub one-arrives : {w : Work} → w .stage ≡ Proposing → Run n (fresh t) w → Arrived whole n t (inOne whole n w)
   unfolding inOne
   one-arrives {w} h r =
       let test : ℕ → Bool = λ p. waits n w p in

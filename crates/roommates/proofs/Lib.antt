@@ -56,6 +56,7 @@ pub mod FuelLasts
 pub mod Stages
 pub mod Arrivals
 pub mod WorkingsEnd
+pub mod RuleInOne
 pub mod ChoicesRefused
 -- What the ends of the phases say, and so the demands.
 pub mod PhaseOneEnds

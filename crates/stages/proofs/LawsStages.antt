@@ -4,13 +4,14 @@ use mathlib.Core.Bool.{Bool, true, false}
 use mathlib.Core.List.{List}
 use Prim.Native.Nat.{ℕ}
 use borrow.Author.Tests.{eq-eqb, ne-eqb}
+use Rattle.roommates.specs.declared.Stage.{Stage}
 use Rattle.roommates.specs.declared.Stage.the-variants.{Proposing, Cutting, NoneOne, Paired}
 use Rattle.roommates.specs.Lists.{Square}
-use Rattle.roommates.specs.PhaseOne.{Work, lowestWaiting, someEmptied}
+use Rattle.roommates.specs.PhaseOne.{Work, work, phaseOne, lowestWaiting, someEmptied}
 use Rattle.roommates.specs.PhaseTwo.{asideOf, lowestLonger}
 use Rattle.roommates.specs.Moves.{outcome, staged, withAside, inTwo, endOne, inOne, ruled}
 use Rattle.stages.specs.declared.Place.{Place}
-use Rattle.stages.specs.Places.{outcomeAt, Ruled, Stands}
+use Rattle.stages.specs.Places.{workAt, outcomeAt, Ruled, Stands}
 
 -- a place that is a working knows the joint that the working's rule names
 pub ruled-as : (n : ℕ) (t : Square) {r : Place} {k : ℕ} {w : Work} → outcomeAt t r ≡ outcome k w → r .next ≡ ruled n w → Ruled n t r
@@ -57,3 +58,11 @@ module _ (n : ℕ) (t : Square) {r : Place} where
           → Stands n t r (inOne whole n w)
       unfolding inOne ruled
       one-goes-on h e is names = stands (ap (λ s. staged s w) (sym e) ∙ (rw (← is-low, ne-eqb _ _ h))) is (names ∙ is-low)
+
+-- phase one at once: w is where it ended
+pub ran-on : (whole : Bool) (n : ℕ) (t u : Square) (g r : Place) {w : Work} → g .stage ≡ Proposing
+    → w ≡ phaseOne n (work Proposing t (g .reach) (g .received) (g .aside) (g .proposals) (g .cuts)) → Stands n u r (inOne whole n w)
+    → Stands n u r (inOne whole n (phaseOne n (workAt t g)))
+ran-on whole n t u g r h e s =
+    let begun = ap (λ (x : Stage). phaseOne n (work x t (g .reach) (g .received) (g .aside) (g .proposals) (g .cuts))) h in
+    (s .0 ∙ ap (λ (v : Work). outcome 0 (inOne whole n v)) (e ∙ sym begun), s .1)

@@ -3,12 +3,14 @@
 use cuts::set_aside;
 use lists::strikes::lowest_longer;
 use lists::strikes::lowest_waiting;
+use proposals::run_on;
 use proposals::some_emptied;
 use roommates::Stage;
 ghost use mathlib.Core.Path.{_≡_};
 ghost use Prim.Native.Nat.{_≤_};
 ghost use Rattle.roommates.specs.declared.Stage.the-variants.{Proposing};
 ghost use Rattle.roommates.specs.Lists.{Square};
+ghost use Rattle.roommates.specs.PhaseOne.{phaseOne};
 ghost use Rattle.roommates.specs.Moves.{outcome, staged, withAside, inTwo, endOne, inOne, begun};
 ghost use Rattle.stages.specs.Places.{workAt, outcomeAt, Stands};
 
@@ -130,4 +132,27 @@ pub fn begin(n: usize, lists: &[[u8; 128]; 128], whole: bool) -> Place
         cuts: 0,
     };
     in_one(n, lists, place, whole)
+}
+
+// Phase one by the rule, to its end, at once.
+pub fn propose_on(n: usize, lists: &mut [[u8; 128]; 128], place: Place, whole: bool) -> Place
+    requires { ⌜ (n ≤ 128) × ((place .proposals ≤ 65536) × (place .stage ≡ Proposing)) ⌝ }
+    ensures { λ r. ⌜ Stands n (now (lists .exit)) r (inOne whole n (phaseOne n (workAt (now (lists .entry)) place))) ⌝ }
+{
+    let mut reach = place.reach;
+    let mut received = place.received;
+    let mut proposals = place.proposals;
+    run_on(n, lists, &mut reach, &mut received, &mut proposals);
+    let aside = place.aside;
+    let quiet = Place {
+        refusal: 0,
+        stage: Stage::Proposing,
+        next: n,
+        reach,
+        received,
+        aside,
+        proposals,
+        cuts: place.cuts,
+    };
+    in_one(n, lists, quiet, whole)
 }

@@ -16,18 +16,19 @@ use Rattle.sheet.specs.Square.{SquarePromise}
 use Rattle.roommates.specs.declared.Stage.{Stage}
 use Rattle.roommates.specs.declared.Stage.the-variants.{Proposing, Cutting, NoneOne, NoneTwo, Paired}
 use Rattle.roommates.specs.Lists.{Square}
-use Rattle.roommates.specs.PhaseOne.{Work}
-use Rattle.roommates.specs.Moves.{begun, Outcome, outcome, move, ruled, moves, concluded, turns, worked}
+use Rattle.roommates.specs.PhaseOne.{Work, phaseOne}
+use Rattle.roommates.specs.Moves.{inOne, begun, Outcome, outcome, move, ruled, moves, concluded, turns, worked}
 use Rattle.roommates.specs.Runs.{Arrived}
 use Rattle.roommates.proofs.Sound.{promise-sound}
 use Rattle.roommates.proofs.Stages.{Over}
 use Rattle.roommates.proofs.EntryCounts.{entries-bound}
 use Rattle.roommates.proofs.Arrivals.{move-arrives, begun-arrives}
 use Rattle.roommates.proofs.WorkingsEnd.{arrived-few, rule-moves, stays}
+use Rattle.roommates.proofs.RuleInOne.{phase-one-at-once, at-once-arrives}
 use Rattle.stages.specs.declared.Place.{Place}
 use Rattle.stages.specs.Places.{workAt, outcomeAt, Ruled, Stands}
 use Rattle.moves.specs.Moved.{Roomy}
-use Rattle.steering.specs.Lawful.{isOver, Standing}
+use Rattle.steering.specs.Lawful.{isOver, isProposing, Standing}
 
 over-said : (s : Stage) → isOver s ≡ true → Over s
 over-said Proposing h = absurd (never _ h refl)
@@ -41,6 +42,13 @@ said-over s h over =
     case over
     (λ e. never _ (ap isOver e) h)
     (λ over. case over (λ e. never _ (ap isOver e) h) (λ e. never _ (ap isOver e) h))
+
+pub one-said : (s : Stage) → isProposing s ≡ true → s ≡ Proposing
+one-said Proposing h = refl
+one-said Cutting h = absurd (never _ h refl)
+one-said NoneOne h = absurd (never _ h refl)
+one-said NoneTwo h = absurd (never _ h refl)
+one-said Paired h = absurd (never _ h refl)
 
 rule-more : (whole : Bool) (n f : ℕ) (w : Work) → concluded (suc f) whole n w ≡ concluded f whole n (move whole n w (ruled n w) .work-is)
 unfolding concluded
@@ -86,6 +94,24 @@ module _ {whole : Bool} {n : ℕ} {t : Square} {g : Place} (s : Standing whole n
   pub chosen-all : (cs : List ℕ) (i : ℕ) → length cs ≤ i → outcomeAt t g ≡ moves whole n (workAt t g) (drop i cs)
   unfolding moves
   chosen-all cs i l = rw (drop-of-length-le cs l, s .unrefused) refl
+
+  -- PHASE ONE AT ONCE
+  module _ (one : isProposing (g .stage) ≡ true) {u : Square} (h : Place) (e : Stands n u h (inOne whole n (phaseOne n (workAt t g)))) where
+    pub stands-past : Standing whole n u h
+    stands-past = record {
+      start = s .start;
+      promise = s .promise;
+      arrived =
+          subst (Arrived whole n (s .start)) (sym (ap (λ (o : Outcome). o .work-is) (e .0)))
+          (at-once-arrives (promise-sound (s .promise)) (s .arrived) (one-said (g .stage) one));
+      unrefused = ap (λ (o : Outcome). o .refusal) (e .0);
+      knows = e .1;
+    }
+
+    pub concluded-past : concluded (turns n) whole n (workAt u h) ≡ concluded (turns n) whole n (workAt t g)
+    concluded-past =
+        ap (λ (o : Outcome). concluded (turns n) whole n (o .work-is)) (e .0)
+        ∙ sym (phase-one-at-once (promise-sound (s .promise)) (s .arrived) (one-said (g .stage) one))
 
   -- THE RULE
   pub rule-ends : (f : ℕ) → isOver (g .stage) ≡ true → outcomeAt t g ≡ outcome 0 (concluded f whole n (workAt t g))

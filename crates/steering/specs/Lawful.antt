@@ -18,6 +18,14 @@ isOver NoneOne = true
 isOver NoneTwo = true
 isOver Paired = true
 
+-- is it in phase one?
+abbrev pub isProposing : Stage → Bool
+isProposing Proposing = true
+isProposing Cutting = false
+isProposing NoneOne = false
+isProposing NoneTwo = false
+isProposing Paired = false
+
 -- It came from lists that keep the reader's promise, so that its counts are small; no choice was refused; and the place knows the rule's joint.
 pub record Standing (whole : Bool) (n : ℕ) (t : Square) (g : Place) : Type 0 where
   pub start : Square

@@ -4,11 +4,12 @@ use moves::make_move;
 use roommates::Stage;
 use stages::Place;
 use stages::begin;
+use stages::propose_on;
 ghost use mathlib.Core.Path.{_≡_};
 ghost use Rattle.sheet.specs.Square.{SquarePromise};
 ghost use Rattle.roommates.specs.Moves.{outcome, moves, concluded, turns, worked};
 ghost use Rattle.stages.specs.Places.{workAt, outcomeAt};
-ghost use Rattle.steering.specs.Lawful.{isOver, Standing};
+ghost use Rattle.steering.specs.Lawful.{isOver, isProposing, Standing};
 
 fn is_over(stage: Stage) -> bool
     ensures { λ r. ⌜ r ≡ isOver stage ⌝ }
@@ -46,8 +47,8 @@ fn choose(
     next
 }
 
-// The rule's moves, to the end.
-fn conclude(n: usize, lists: &mut [[u8; 128]; 128], place: Place, whole: bool) -> Place
+// The rule's moves, one by one, to the end.
+fn go_on(n: usize, lists: &mut [[u8; 128]; 128], place: Place, whole: bool) -> Place
     requires { ⌜ Standing whole n (now lists) place ⌝ }
     ensures { λ r. ⌜ outcomeAt (now (lists .exit)) r ≡ outcome 0 (concluded (turns n) whole n (workAt (now (lists .entry)) place)) ⌝ }
 {
@@ -63,6 +64,31 @@ fn conclude(n: usize, lists: &mut [[u8; 128]; 128], place: Place, whole: bool) -
         i += 1;
     }
     next
+}
+
+fn is_proposing(stage: Stage) -> bool
+    ensures { λ r. ⌜ r ≡ isProposing stage ⌝ }
+{
+    match stage {
+        Stage::Proposing => true,
+        Stage::Cutting => false,
+        Stage::NoneOne => false,
+        Stage::NoneTwo => false,
+        Stage::Paired => false,
+    }
+}
+
+// The rule's moves, to the end; those of phase one at once, so that they copy no place.
+fn conclude(n: usize, lists: &mut [[u8; 128]; 128], place: Place, whole: bool) -> Place
+    requires { ⌜ Standing whole n (now lists) place ⌝ }
+    ensures { λ r. ⌜ outcomeAt (now (lists .exit)) r ≡ outcome 0 (concluded (turns n) whole n (workAt (now (lists .entry)) place)) ⌝ }
+{
+    let stage = place.stage;
+    if !is_proposing(stage) {
+        return go_on(n, lists, place, whole);
+    }
+    let next = propose_on(n, lists, place, whole);
+    go_on(n, lists, next, whole)
 }
 
 // The working of n joints' lists, settle's if `whole`, else shorten's: where it ends, and the lists left there.
