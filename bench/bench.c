@@ -104,6 +104,21 @@ static void opposed_sides(bands band)
         }
 }
 
+/* a ranks the joints up to a distance of its own around the ring, in random order; beyond it they are cut off, so that
+ * some that are listed do not list in return */
+static void cut_off(bands band)
+{
+    for (int a = 0; a < N; a++) {
+        int reach = 8 + below(40);
+        rank_randomly(band, a, 0, N, 0);
+        for (int b = 0; b < N; b++) {
+            int apart = (a - b + N) % N;
+            if (apart > reach && N - apart > reach)
+                band[a][b] = 0;
+        }
+    }
+}
+
 struct sheet_case {
     const char *name;
     void (*fill)(bands);
@@ -114,6 +129,7 @@ static const struct sheet_case cases[] = {
     {"random, strict", random_strict, SHEETS},
     {"random, with ties", random_ties, SHEETS},
     {"two random sides", two_sides, SHEETS},
+    {"cut off at a distance", cut_off, SHEETS},
     {"cyclic lists", cyclic, 1},
     {"two opposed cyclic sides", opposed_sides, 1},
 };

@@ -46,6 +46,14 @@ static bool label_repeats(const uint8_t *labels, int i)
     return false;
 }
 
+/* An entry whose candidate does not list its joint counts as unlisted. */
+static void strike_unreturned(struct working *w, const uint8_t *e, const uint8_t *end)
+{
+    for (; e < end; e += ENTRY)
+        if (w->band[e[1]][e[0]] == 0)
+            w->band[e[0]][e[1]] = 0;
+}
+
 /* Reads a sheet into a fresh working. Returns 0 or a refusal. */
 static int read_sheet(struct working *w, const uint8_t *sheet, size_t size)
 {
@@ -87,10 +95,7 @@ static int read_sheet(struct working *w, const uint8_t *sheet, size_t size)
         before_a = a;
         before_b = b;
     }
-    for (int a = 0; a < n; a++)
-        for (int b = 0; b < n; b++)
-            if (w->band[a][b] != 0 && w->band[b][a] == 0)
-                return 7;
+    strike_unreturned(w, sheet + at, sheet + size);
     return 0;
 }
 

@@ -20,7 +20,9 @@
  *   2 bytes    m, the number of entries, low byte first
  *   3 x m      the entries: joint, candidate, band. Bands are 1 to 127, and lower is better. Equal bands on one joint's
  *              list are a tie, and gaps between bands mean nothing. Entries ascend by joint, then by candidate.
- * If a lists b, then b lists a. A joint may list nobody.
+ * A joint may list nobody. An entry counts only if it is returned, that is if its candidate lists its joint too. Lists may
+ * be cut off at a distance, so entries that are not returned are welcome; their form is looked at like that of others, but
+ * they count as unlisted everywhere: nobody is paired by one, none blocks, and mirror_shorten leaves them out.
  *
  * CHOICES settle the order of work, a byte each: in the first phase the joint that proposes next, which must be waiting
  * (its list is not empty and none of its proposals stands); in the second the joint at whose list the next cut is made,
@@ -39,10 +41,9 @@
  *    4    a joint not below n, or a joint that lists itself
  *    5    band 0 or above 127
  *    6    not after the entry before it
- *    7  a joint lists another that does not list it
  *    9  `out` is too short
  *   10  the offered pairing is not one: not n bytes, a byte that is neither 255 nor a joint, two joints that do not name
- *       each other, or a pair that is not listed
+ *       each other, or a pair of joints that do not list each other
  *   11  the chosen joint does not wait, or is no joint (first phase)
  *   12  the chosen list is not longer than one, or the choice is no joint (second phase)
  *   13  a choice is left over when the work has ended
@@ -96,7 +97,6 @@ enum mirror_refusal {
     MIRROR_NO_SUCH_JOINT = 4,
     MIRROR_BAD_BAND = 5,
     MIRROR_ENTRY_NOT_AFTER = 6,
-    MIRROR_NOT_RETURNED = 7,
     MIRROR_BYTES_AFTER_SHEET = 8,
     MIRROR_OUT_TOO_SHORT = 9,
     MIRROR_NO_PAIRING_OFFERED = 10,
@@ -110,7 +110,7 @@ enum mirror_refusal {
  * program that is linked against a library other than the header it was compiled with can tell:
  *     if (mirror_version() != MIRROR_VERSION) ...
  */
-#define MIRROR_VERSION 1
+#define MIRROR_VERSION 2
 uint32_t mirror_version(void);
 
 /*
@@ -120,7 +120,7 @@ uint32_t mirror_version(void);
  *   verdict 3  a pairing of `count` pairs. out[0 .. n-1] are each joint's partner, 255 for an unpaired joint.
  *   verdict 1  the sheet has no super-stable pairing, which the first phase showed; count is 0, nothing is written.
  *   verdict 2  the same, shown by the second phase.
- *   verdict 0  refused (1 to 8, 9, 11 to 13); count is 0, nothing is written.
+ *   verdict 0  refused (1 to 6, 8, 9, 11 to 13); count is 0, nothing is written.
  * `out` needs n bytes or more, also where there turns out to be no pairing. Bytes past the first n stay as they were.
  */
 uint32_t mirror_settle(const uint8_t *sheet, size_t sheet_size,
@@ -134,8 +134,9 @@ uint32_t mirror_settle(const uint8_t *sheet, size_t sheet_size,
  *   verdict 3  `count` entries are left. `out` begins with the count, two bytes, low byte first, then 3 x count bytes of
  *              entries in the sheet's form and order, with the sheet's bands.
  *   verdict 1  the sheet has no super-stable pairing; count is 0, nothing is written.
- *   verdict 0  refused (1 to 8, 9, 11, 13); count is 0, nothing is written.
- * `out` needs 2 + 3 x m bytes or more, for the m of the sheet. Bytes past those written stay as they were.
+ *   verdict 0  refused (1 to 6, 8, 9, 11, 13); count is 0, nothing is written.
+ * `out` needs 2 + 3 x m bytes or more, for the m of the sheet, which counts entries that are not returned too. Bytes past
+ * those written stay as they were.
  */
 uint32_t mirror_shorten(const uint8_t *sheet, size_t sheet_size,
                         const uint8_t *choices, size_t choices_size,
@@ -152,7 +153,7 @@ uint32_t mirror_shorten(const uint8_t *sheet, size_t sheet_size,
  *                  while (b * (b + 1) / 2 <= pair)
  *                      b++;
  *                  a = pair - b * (b - 1) / 2;
- *              With refusal 1 to 8 or 10: not checked; pair is 0.
+ *              With refusal 1 to 6, 8 or 10: not checked; pair is 0.
  */
 uint32_t mirror_check(const uint8_t *sheet, size_t sheet_size,
                       const uint8_t *pairing, size_t pairing_size);
@@ -161,7 +162,7 @@ uint32_t mirror_check(const uint8_t *sheet, size_t sheet_size,
  * Counts the work that mirror_settle (whole is true) or mirror_shorten (false) does with the same sheet and choices:
  * proposals of the first phase, one for each joint reached, and cuts of the second.
  *
- * Returns refusal + 65,536 x proposals + 2^32 x cuts. Where the sheet is refused (1 to 8) both are 0. Where a choice is
+ * Returns refusal + 65,536 x proposals + 2^32 x cuts. Where the sheet is refused (1 to 6, 8) both are 0. Where a choice is
  * refused (11 to 13) they are those made until then.
  */
 uint64_t mirror_counts(const uint8_t *sheet, size_t sheet_size,

@@ -24,11 +24,6 @@ any-none (suc i) test h j l =
     (λ e. absurd (never _ refl (rw e at h)))
     (λ e. case (below-suc l) (λ m. ap test m ∙ (rw e at h)) (λ m. any-none i test e j m))
 
-pub any-cong : (n : ℕ) (f g : ℕ → Bool) → ((i : ℕ) → i < n → f i ≡ g i) → anyBelow n f ≡ anyBelow n g
-unfolding anyBelow
-any-cong zero f g h = refl
-any-cong (suc n) f g h = rw (any-cong n f g (λ i l. h i (omega arith)), h n (omega arith))
-
 pub none-any : (n : ℕ) (test : ℕ → Bool) → ((i : ℕ) → i < n → test i ≡ false) → anyBelow n test ≡ false
 unfolding anyBelow
 none-any zero test h = refl

@@ -42,15 +42,21 @@ pub when-none : (b : Bool) (k : ℕ) → when b (suc k) ≡ 0 → b ≡ false
 when-none true k h = absurd (omega arith)
 when-none false k h = refl
 
-pub when-most : (b : Bool) (k m : ℕ) → k ≤ m → when b k ≤ m
-when-most true k m h = h
-when-most false k m h = omega arith
+pub when-holds : (P : ℕ → Type 0) (b : Bool) (k : ℕ) → P 0 → P k → P (when b k)
+when-holds P true k none h = h
+when-holds P false k none h = none
 
--- no number of a list is above m
-pub first-most : (m f : ℕ) (later : List ℕ) → f ≤ m → firstFault later ≤ m → firstFault (f ∷ later) ≤ m
+pub when-most : (b : Bool) (k m : ℕ) → k ≤ m → when b k ≤ m
+when-most b k m h = when-holds (λ i. i ≤ m) b k (omega arith) h
+
+-- what holds of every number of a list holds of the first; as that none is above m
+pub first-holds : (P : ℕ → Type 0) (f : ℕ) (later : List ℕ) → P f → P (firstFault later) → P (firstFault (f ∷ later))
 unfolding firstFault
-first-most m zero later h g = g
-first-most m (suc k) later h g = h
+first-holds P zero later h g = g
+first-holds P (suc k) later h g = h
+
+pub first-most : (m f : ℕ) (later : List ℕ) → f ≤ m → firstFault later ≤ m → firstFault (f ∷ later) ≤ m
+first-most m = first-holds (λ k. k ≤ m)
 
 -- WHICH NUMBER IS ANSWERED
 first-is : (faults : List ℕ) (k : ℕ) → firstFault faults ≡ k → 1 ≤ k → First k faults

@@ -121,6 +121,18 @@ sum-raise-two n f g p q d lp lq ne h up vp =
     (λ lt. raise-below n f g p q d lt lq h up vp)
     (λ ge. raise-below n f g q p d (omega arith) lp h vp up)
 
+-- a sum of terms that are nought from a on
+pub sum-cut : (n a : ℕ) (f g : ℕ → ℕ) → a ≤ n → ((i : ℕ) → i < a → f i ≡ g i) → ((i : ℕ) → a ≤ i → f i ≡ 0) → sumBelow n f ≡ sumBelow a g
+unfolding sumBelow
+sum-cut zero a f g h same none = let e : a ≡ 0 = omega arith in rw e
+sum-cut (suc n) a f g h same none =
+    case (eq-ne a (suc n))
+    (λ e. rw e (sum-same (suc n) f g (λ i l. same i (omega arith))))
+    (λ ne.
+    let rest : sumBelow n f ≡ sumBelow a g = sum-cut n a f g (omega arith) same none in
+    let last : f n ≡ 0 = none n (omega arith) in
+    omega arith)
+
 -- a sum by its first number and the rest
 pub sum-first : (n : ℕ) (f : ℕ → ℕ) → sumBelow (suc n) f ≡ f 0 + sumBelow n (λ i. f (suc i))
 unfolding sumBelow

@@ -29,7 +29,7 @@ use Rattle.matching.proofs.PairCounts.{paired-few}
 use Rattle.matching.specs.Matchings.{pairCount}
 use Rattle.roommates.proofs.Sound.{promise-sound}
 use Rattle.roommates.proofs.EntryCounts.{entries-bound, entries-kept}
-use Rattle.roommates.proofs.EntriesListed.{all-listed}
+use Rattle.roommates.proofs.EntriesListed.{all-listed, pairs-half}
 use Rattle.roommates.proofs.Arrivals.{worked-arrives}
 use Rattle.roommates.proofs.WorkingsEnd.{arrived-shrunk, arrived-few}
 use Rattle.roommates.proofs.PairsWritten.{pairing-length}
@@ -173,7 +173,7 @@ module _ (s : List ℕ) (parts : Parts) (t : Square) (known : ListsAs s parts t)
   pub read-entries : (entryCount (parts .joints) t ≤ parts .entries) × (parts .entries ≤ 128 * 127)
   read-entries =
       rw (known .square, read .n-joints, read .m-entries)
-      (let all = all-listed s (read .faultless) in omega arith, accepted-sizes s (read .faultless) .most-entries)
+      (let all = all-listed s (read .faultless) in let half = pairs-half s (read .faultless) in omega arith, accepted-sizes s (read .faultless) .most-entries)
 
   pub settle-read : (cs out : List ℕ) {r : Settled} {after : List ℕ} → SettledSo (settling (parts .joints) t cs out) out r after
       → SettledSo (settleCall s cs out) out r after

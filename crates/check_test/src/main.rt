@@ -5,9 +5,11 @@ use blocking::Checked;
 use calls::checking::check;
 use reference::BLOCKED;
 use reference::STABLE;
+use reference::one;
 use reference::worth;
 use samples::Style;
 use samples::drawn_sheet;
+use samples::is_one_sided;
 use samples::sheet_of;
 use std::num::wrapping_add_u32;
 use tally::add;
@@ -31,7 +33,8 @@ const OFFERED: [[u8; 6]; 7] = [
     [4, 2, 255, 0, 255, 0],
 ];
 
-// Where the answers to the pairings offered stand, then how many vectors held, were refused, were blocked, and how many sheets there were.
+// Where the answers to the pairings offered stand, then how many vectors held, were refused, were blocked, and how many sheets there were,
+// and had an entry that is not returned.
 const ANSWERS: usize = 2;
 
 const ENDS: usize = 10;
@@ -126,10 +129,11 @@ fn try_vectors(counts: [u32; 40], round: u32, bands: &[u8; 64], sheet: &[u8], n:
     sums
 }
 
-// Three times out of four two joints list each other, each in a band from 1 to 3.
-fn style() -> Style {
+// Three times out of four two joints list each other, each in a band from 1 to 3; on two sheets of three some do not list in return.
+fn style(round: u32) -> Style {
     Style {
         skip: 1,
+        lone: if round % 3 == 0 { 0 } else { 3 },
         width: 2,
         turn: 0,
     }
@@ -157,10 +161,11 @@ fn try_round(counts: [u32; 40], round: u32) -> [u32; 40]
     requires { ⌜ round < 1000 ⌝ }
 {
     let n = (round % 7) as usize;
-    let sheet = drawn_sheet(n, 61 * round, style());
+    let sheet = drawn_sheet(n, 61 * round, style(round));
     let bands = sheet.bands;
     let bytes = sheet.bytes;
-    try_bytes(add(counts, SHEETS, 1), round, bands, bytes, sheet.size, n)
+    let sums = add(add(counts, SHEETS, 1), SHEETS + 1, one(is_one_sided(sheet)));
+    try_bytes(sums, round, bands, bytes, sheet.size, n)
 }
 
 fn try_rounds(counts: [u32; 40]) -> [u32; 40] {
@@ -213,7 +218,7 @@ not symmetric: #\n\
 not listed: #\n\
 an empty sheet: #\n\
 vectors that held, were refused, were blocked: # # #\n\
-sheets: #\n",
+sheets, with an entry that is not returned: # #\n",
         counts,
     );
 }

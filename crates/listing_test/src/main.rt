@@ -39,5 +39,6 @@ fn main() {
     try_example(b"row-f.sheet", b"row-f.txt");
     try_example(b"row-g.sheet", b"row-g.txt");
     try_example(b"fox.sheet", b"fox.txt");
+    try_example(b"one-sided.sheet", b"one-sided.txt");
     try_example(b"refused.sheet", b"refused.txt");
 }

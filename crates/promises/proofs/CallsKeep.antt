@@ -8,13 +8,13 @@ use native.Mathlib.Omega.{arith}
 use Rattle.base.proofs.Faults.{fault-stops, fault-passes, last-fault}
 use Rattle.base.specs.Faults.{firstFault}
 use Rattle.sheet.proofs.Numbers.{sheet-most}
-use Rattle.sheet.specs.Format.{joints, rankCount}
+use Rattle.square.specs.Mutual.{listedPairs}
+use Rattle.sheet.specs.Format.{joints, entriesOf}
 use Rattle.sheet.specs.Refusals.{sheetFault}
 use Rattle.sheet.specs.Square.{squareOf}
 use Rattle.sheet.proofs.PromiseKept.{accepted-square}
 use Rattle.roommates.specs.Moves.{Outcome, worked}
-use Rattle.roommates.specs.Left.{entryCount}
-use Rattle.roommates.proofs.EntriesListed.{all-listed}
+use Rattle.roommates.proofs.EntriesListed.{all-listed, pairs-half}
 use Rattle.roommates.proofs.Demands.{demands}
 use Rattle.roommates.specs.Runs.{Arrived}
 use Rattle.roommates.specs.Claims.{RefusedBy}
@@ -34,7 +34,7 @@ proposals-or : (f : ℕ) (e : Outcome) (most : ℕ) → (f ≡ 0 → e .work-is 
 proposals-or zero e most h = h refl
 proposals-or (suc f) e most h = omega arith
 
-cuts-or : (f : ℕ) (e : Outcome) (most : ℕ) → (f ≡ 0 → 2 * e .work-is .cuts ≤ most) → 2 * countsAs f e .cuts ≤ most
+cuts-or : (f : ℕ) (e : Outcome) (most : ℕ) → (f ≡ 0 → e .work-is .cuts ≤ most) → countsAs f e .cuts ≤ most
 cuts-or zero e most h = h refl
 cuts-or (suc f) e most h = omega arith
 
@@ -48,13 +48,13 @@ module _ (s : List ℕ) where
   work-proposals true cs f = demands s f .few-proposals cs .0
   work-proposals false cs f = demands s f .few-proposals cs .1
 
-  work-cuts : (whole : Bool) (cs : List ℕ) → sheetFault s ≡ 0 → 2 * worked whole (joints s) (squareOf s) cs .work-is .cuts ≤ rankCount s
+  work-cuts : (whole : Bool) (cs : List ℕ) → sheetFault s ≡ 0 → worked whole (joints s) (squareOf s) cs .work-is .cuts ≤ listedPairs (entriesOf s)
   work-cuts true cs f =
-      let all : entryCount (joints s) (squareOf s) ≡ rankCount s = all-listed s f in
+      let all = all-listed s f in
       omega (arith, demands s f .few-cuts cs .0)
   work-cuts false cs f = omega (arith, demands s f .few-cuts cs .1)
 
-  work-no-cuts : (cs : List ℕ) → sheetFault s ≡ 0 → 2 * worked false (joints s) (squareOf s) cs .work-is .cuts ≤ 0
+  work-no-cuts : (cs : List ℕ) → sheetFault s ≡ 0 → worked false (joints s) (squareOf s) cs .work-is .cuts ≤ 0
   work-no-cuts cs f = omega (arith, demands s f .few-cuts cs .1)
 
   work-no-choices : (whole : Bool) → sheetFault s ≡ 0 → worked whole (joints s) (squareOf s) [] .refusal ≡ 0
@@ -116,7 +116,8 @@ module _ (s : List ℕ) where
     choice-refused = choice-refused;
     counts-are = counts-are;
     few-proposals = λ whole cs. rw (last-fault (sheetFault s)) (proposals-or (sheetFault s) _ (joints s * joints s) (work-proposals whole cs));
-    few-cuts = λ whole cs. rw (last-fault (sheetFault s)) (cuts-or (sheetFault s) _ (rankCount s) (work-cuts whole cs));
+    few-cuts = λ whole cs. rw (last-fault (sheetFault s)) (cuts-or (sheetFault s) _ (listedPairs (entriesOf s)) (work-cuts whole cs));
+    pairs-half = pairs-half s;
     no-cuts = no-cuts;
     counts-small = λ whole cs. rw (last-fault (sheetFault s)) (small-or (sheetFault s) _ (λ f. work-few whole (joints s) (squareOf s) (accepted-square s f) cs));
     no-choices = λ whole f.

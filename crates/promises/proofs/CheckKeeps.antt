@@ -2,15 +2,15 @@
 use mathlib.Core.Path.{_≡_, refl, sym, ap, _∙_}
 use mathlib.Core.Bool.{Bool, true, false, not}
 use mathlib.Core.List.{List}
-use mathlib.Core.Logic.{_≢_, _↔_}
+use mathlib.Core.Logic.{_⊎_, inl, inr, _≢_, _↔_}
 use mathlib.Core.Option.{Option, none, some}
 use Prim.Native.Nat.{ℕ, zero, suc, _≤_, _<_}
 use native.Mathlib.Omega.{arith}
 use lib.ListN.{length, getD}
 use Rattle.base.specs.Claims.{First}
 use Rattle.base.specs.Faults.{when, firstFault}
-use Rattle.base.proofs.Cases.{unlike}
-use Rattle.base.proofs.Faults.{first-answered, answered-at, first-none, fault-passes, last-fault}
+use Rattle.base.proofs.Cases.{case, unlike}
+use Rattle.base.proofs.Faults.{first-answered, answered-at, first-none, first-holds, fault-passes, last-fault}
 use Rattle.base.proofs.Tests.{never, not-so}
 use Rattle.sheet.specs.Format.{joints}
 use Rattle.sheet.specs.Refusals.{sheetFault}
@@ -27,7 +27,7 @@ use Rattle.blocking.proofs.LowestPair.{blocking-pair-lowest}
 use Rattle.blocking.proofs.SuperStableTest.{is-super-stable-means, super-stable-parts}
 use Rattle.calls.specs.Checks.{checkFaults, checkedAs, checkOf}
 use Rattle.promises.specs.Claims.{CheckKeeps}
-use Rattle.sheet.proofs.Numbers.{sheet-most}
+use Rattle.sheet.proofs.Numbers.{sheet-most, sheet-numbers}
 
 -- AN ANSWER by the first refusal and the lowest blocking pair
 checked-refused : (f k : ℕ) (o : Option ℕ) → checkedAs f o ≡ Refused k ↔ ((f ≡ k) × (1 ≤ k))
@@ -61,6 +61,14 @@ ten-only : (b : Bool) (k : ℕ) → 1 ≤ k → k ≤ 9 → ten b ≢ k
 ten-only true k one few h = omega arith
 ten-only false k one few h = omega arith
 
+-- a refusal's number
+abbrev Number : ℕ → Type 0
+Number k = 1 ≤ k → ((1 ≤ k) × (k ≤ 6)) ⊎ ((k ≡ 8) ⊎ (k ≡ 10))
+
+ten-number : (b : Bool) → Number (ten b)
+ten-number true one = absurd (omega arith)
+ten-number false one = inr (inr refl)
+
 module _ (s m : List ℕ) where
   abbrev n : ℕ
   n = joints s
@@ -85,6 +93,15 @@ module _ (s m : List ℕ) where
       let a = checked-refused (firstFault (checkFaults s m)) k pair in
       let b = first-answered (checkFaults s m) k in
       (λ h. b .0 (a .0 h), λ h. a .1 (b .1 h))
+
+  numbers : (k : ℕ) → checkOf s m ≡ Refused k → ((1 ≤ k) × (k ≤ 6)) ⊎ ((k ≡ 8) ⊎ (k ≡ 10))
+  numbers k h =
+      let (e, one) = checked-refused (firstFault (checkFaults s m)) k pair .0 h in
+      let any : Number k = rw (← e) (first-holds Number _ _ own (rw (last-fault (ten (isMatching n t m))) (ten-number (isMatching n t m)))) in
+      any one
+    where
+      own : Number (sheetFault s)
+      own one = case (sheet-numbers s) (λ l. inl (one, l)) (λ i. inr (inl i))
 
   by-sheet : (k : ℕ) → 1 ≤ k → k ≤ 8 → checkOf s m ≡ Refused k ↔ (sheetFault s ≡ k)
   by-sheet k one few =
@@ -139,4 +156,4 @@ module _ (s m : List ℕ) where
       )
 
   pub check-keeps : CheckKeeps s m
-  check-keeps = record { check-first = first; check-sheet = by-sheet; check-ten = by-ten; check-holds = holds; check-blocked = blocked }
+  check-keeps = record { check-first = first; check-numbers = numbers; check-sheet = by-sheet; check-ten = by-ten; check-holds = holds; check-blocked = blocked }

@@ -4,5 +4,6 @@ pub mod CheckKeeps
 pub mod SettleKeeps
 pub mod ShortenKeeps
 pub mod CallsKeep
+pub mod OneSided
 -- the rows of document 01, by computation
 pub mod StarredRows

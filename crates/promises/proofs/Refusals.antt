@@ -35,7 +35,10 @@ nine : (b : Bool) (k : ℕ) → 1 ≤ k → k ≢ 9 → when b 9 ≢ k
 nine true k some ne h = ne (sym h)
 nine false k some ne h = omega arith
 
-module _ (f room need c : ℕ) (small : f ≤ 8) (choice : f ≡ 0 → OfChoice c) where
+module _ (f room need c : ℕ) (known : (f ≤ 6) ⊎ (f ≡ 8)) (choice : f ≡ 0 → OfChoice c) where
+  small : f ≤ 8
+  small = case known (λ h. omega arith) (λ h. omega arith)
+
   abbrev faults : List ℕ
   faults = callFaults f room need c
 
@@ -59,7 +62,7 @@ module _ (f room need c : ℕ) (small : f ≤ 8) (choice : f ≡ 0 → OfChoice 
   by-buffer : firstFault faults ≡ 9 ↔ ((f ≡ 0) × (room < need))
   by-buffer =
       let at = answered-at faults 1 9 (omega arith)
-      (others 1 9 (omega arith) (λ ne e. omega arith) (λ ne. absurd (ne refl)) (λ ne. not-choice 9 (omega arith) (omega arith))) in (
+      (others 1 9 (omega arith) (λ ne e. omega (arith, small)) (λ ne. absurd (ne refl)) (λ ne. not-choice 9 (omega arith) (omega arith))) in (
         λ h. let r = at .0 h in (r .1 0 (omega arith), said (ltb room need) refl (r .0)),
         λ h. at .1 (rw (lt-ltb room need (h .1)) refl, λ l k. let e : l ≡ 0 = omega arith in rw e (h .0)),
       )
@@ -72,7 +75,7 @@ module _ (f room need c : ℕ) (small : f ≤ 8) (choice : f ≡ 0 → OfChoice 
   last : (k : ℕ) → 10 ≤ k → firstFault faults ≡ k ↔ ((c ≡ k) × ((l : ℕ) → l < 2 → getD faults l 0 ≡ 0))
   last k big =
       let some : 1 ≤ k = omega arith in
-      answered-at faults 2 k some (others 2 k some (λ ne e. omega arith) (λ ne e. omega arith) (λ ne. absurd (ne refl)))
+      answered-at faults 2 k some (others 2 k some (λ ne e. omega (arith, small)) (λ ne e. omega arith) (λ ne. absurd (ne refl)))
 
   -- the buffer will do, and it is the number of the sheet and the choices alone
   by-choice : (k : ℕ) → 11 ≤ k → firstFault faults ≡ k ↔ ((need ≤ room) × (firstFault (f ∷ (c ∷ [])) ≡ k))
@@ -86,7 +89,7 @@ module _ (f room need c : ℕ) (small : f ≤ 8) (choice : f ≡ 0 → OfChoice 
       )
     where
       alone : (j : ℕ) → j ≢ 1 → ((l : ℕ) → l < j → getD (f ∷ (c ∷ [])) l 0 ≡ 0) → getD (f ∷ (c ∷ [])) j 0 ≢ k
-      alone zero ne earlier = λ e. omega arith
+      alone zero ne earlier = λ e. omega (arith, small)
       alone (suc zero) ne earlier = absurd (ne refl)
       alone (suc (suc j)) ne earlier = λ e. omega arith
 
@@ -95,14 +98,19 @@ module _ (f room need c : ℕ) (small : f ≤ 8) (choice : f ≡ 0 → OfChoice 
       before fits z (suc zero) g = rw (le-ltb room need fits)
       before fits z (suc (suc l)) g = absurd (omega arith)
 
-  numbers : (k : ℕ) → 1 ≤ k → firstFault faults ≡ k → ((1 ≤ k) × (k ≤ 9)) ⊎ ((11 ≤ k) × (k ≤ 13))
+  numbers : (k : ℕ) → 1 ≤ k → firstFault faults ≡ k → ((1 ≤ k) × (k ≤ 6)) ⊎ (((8 ≤ k) × (k ≤ 9)) ⊎ ((11 ≤ k) × (k ≤ 13)))
   numbers k some h =
       case (lt-ge 9 k)
       (λ above.
       let r = last k above .0 h in
       let e : c ≡ k = r .0 in
-      case (choice (r .1 0 (omega arith))) (λ i. absurd (omega arith)) (λ i. inr (omega arith, omega arith)))
-      (λ few. inl (some, few))
+      case (choice (r .1 0 (omega arith))) (λ i. absurd (omega arith)) (λ i. inr (inr (omega arith, omega arith))))
+      (λ few.
+      case (lt-ge 8 k)
+      (λ nine. inr (inl (omega arith, few)))
+      (λ less.
+      let e : f ≡ k = by-sheet k some less .0 h in
+      case known (λ l. inl (some, omega arith)) (λ i. inr (inl (omega arith, few)))))
 
   pub refuses : (Refused : ℕ → Type 0) → ((k : ℕ) → Refused k ↔ ((firstFault faults ≡ k) × (1 ≤ k))) → Refuses f (firstFault (f ∷ (c ∷ []))) need room Refused
   refuses Refused says = record {

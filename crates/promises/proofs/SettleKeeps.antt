@@ -38,7 +38,7 @@ use Rattle.calls.proofs.Answers.{Fair, settled-number, settled-says, settled-pa
 use Rattle.promises.proofs.CheckKeeps.{check-keeps}
 use Rattle.calls.proofs.LawsCalls.{pairs-few}
 use Rattle.promises.proofs.Refusals.{no-fault, all-pass, refuses}
-use Rattle.sheet.proofs.Numbers.{sheet-most}
+use Rattle.sheet.proofs.Numbers.{sheet-numbers}
 
 -- super-stable matchings are those that check holds good
 check-super : (s m : List ℕ) → sheetFault s ≡ 0 → Super s m → checkOf s m ≡ C.Holds
@@ -115,7 +115,7 @@ module _ (s cs out : List ℕ) where
   pub settle-refuses : Refuses (sheetFault s) (countsOf true s cs .number) (joints s) (length out) (λ k. settleAnswer s cs out ≡ S.Refused k)
   settle-refuses =
       rw (counts-number (sheetFault s) (settles (joints s) (squareOf s) cs))
-      (refuses (sheetFault s) (length out) (joints s) (settles (joints s) (squareOf s) cs .refusal) (sheet-most s)
+      (refuses (sheetFault s) (length out) (joints s) (settles (joints s) (squareOf s) cs .refusal) (sheet-numbers s)
       (λ f. refusal-number true (joints s) (squareOf s) cs)
       (λ k. settleAnswer s cs out ≡ S.Refused k)
       says)

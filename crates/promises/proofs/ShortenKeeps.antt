@@ -23,7 +23,7 @@ use Rattle.roommates.specs.Moves.{shortens}
 use Rattle.roommates.specs.Runs.{OneEnded, Arrived}
 use Rattle.roommates.specs.Left.{entryCount, listBytes}
 use Rattle.roommates.proofs.Sound.{promise-sound}
-use Rattle.roommates.proofs.EntriesListed.{all-listed}
+use Rattle.roommates.proofs.EntriesListed.{all-listed, pairs-half}
 use Rattle.roommates.proofs.EntriesWritten.{bytes-length}
 use Rattle.roommates.proofs.Stages.{one-paired}
 use Rattle.roommates.proofs.WorkingsEnd.{worked-ends}
@@ -35,7 +35,7 @@ use Rattle.relisting.specs.Claims.{SheetWith}
 use Rattle.relisting.proofs.EntryBytes as B
 use Rattle.relisting.proofs.Strikes.{shorten-strikes}
 use Rattle.relisting.proofs.LeftWritten.{written-entries}
-use Rattle.relisting.proofs.Rereading.{reads-back}
+use Rattle.relisting.proofs.Rereading.{reads-back, written-returned}
 use Rattle.roommates.proofs.Demands.{demands}
 use Rattle.calls.specs.declared.Phase.the-variants as P
 use Rattle.calls.specs.declared.End.the-variants as E
@@ -47,7 +47,7 @@ use Rattle.calls.proofs.Answers.{Fair, shortened-number, shortened-says, shorte
 use Rattle.calls.proofs.LawsCalls.{left-fits}
 use Rattle.promises.proofs.Refusals.{no-fault, all-pass, refuses}
 use Rattle.promises.proofs.SettleKeeps.{Over, over-is, counts-number, settle-ran, settle-unrefused, settle-ends, verdictOn, pairsOn}
-use Rattle.sheet.proofs.Numbers.{sheet-most}
+use Rattle.sheet.proofs.Numbers.{sheet-most, sheet-numbers}
 use Rattle.sheet.proofs.Sizes.{accepted-sizes}
 
 -- the first two bytes of lists
@@ -107,7 +107,7 @@ module _ (s cs out : List ℕ) where
   pub shorten-refuses : Refuses (sheetFault s) (countsOf false s cs .number) (2 + 3 * rankCount s) (length out) (λ k. shortenAnswer s cs out ≡ L.Refused k)
   shorten-refuses =
       rw (counts-number (sheetFault s) (shortens (joints s) (squareOf s) cs))
-      (refuses (sheetFault s) (length out) (2 + 3 * rankCount s) (shortens (joints s) (squareOf s) cs .refusal) (sheet-most s)
+      (refuses (sheetFault s) (length out) (2 + 3 * rankCount s) (shortens (joints s) (squareOf s) cs .refusal) (sheet-numbers s)
       (λ f. refusal-number false (joints s) (squareOf s) cs)
       (λ k. shortenAnswer s cs out ≡ L.Refused k)
       says)
@@ -140,6 +140,7 @@ module _ (s cs out : List ℕ) where
     lists-over =
         let fewer = left-fits (joints s) (squareOf s) cs (accepted-square s (ran .0)) in
         let all = all-listed s (ran .0) in
+        let half = pairs-half s (ran .0) in
         let l = bytes-length (joints s) lists in
         let count = verdict .1 in
         let room = ran .1 in
@@ -169,10 +170,12 @@ module _ (s cs out : List ℕ) where
           ended = e .0;
           entries = rw (← e .1) (lists-over .first ∙ written-entries s lists (ran .0) struck ∙ ap (λ i. countBytes i ++ bytesOf (left lists (entriesOf s))) few);
           how-many = rw (← e .1) few;
+          returned = rw (← e .1) (written-returned s lists (ran .0) struck);
           reads-back = rw (← e .1) back;
           at-most =
               let fewer = left-fits (joints s) (squareOf s) cs (accepted-square s (ran .0)) in
               let all = all-listed s (ran .0) in
+              let half = pairs-half s (ran .0) in
               let most = accepted-sizes s (ran .0) .most-entries in
               let count = verdict .1 in
               omega arith;

@@ -6,8 +6,9 @@ use Rattle.base.specs.Below.{anyBelow, allBelow, countBelow, sumBelow, lowestFr
 use Rattle.base.specs.Faults.{firstFault, faultBelow}
 use Rattle.sections.specs.Labels.{visibleRun, allZero, labelOk, sameBytes, repeats, labelBad, labelsFault}
 use Rattle.sections.specs.Entries.{entryIn, entriesFrom, bandIn, entryFault}
-use Rattle.sheet.specs.Refusals.{unreturned, sheetFaults, sheetFault}
-use Rattle.sheet.specs.Square.{squareUpTo, emptyAcross}
+use Rattle.square.specs.Mutual.{only}
+use Rattle.sheet.specs.Refusals.{sheetFaults, sheetFault}
+use Rattle.sheet.specs.Square.{placed}
 use Rattle.matching.specs.Matchings.{isPaired, isPlaced, isMatching, pairedJoints, aloneCount}
 use Rattle.blocking.specs.Blocking.{welcomes, isApart, blocks, blocker, blockingPair, isSuperStable}
 use Rattle.blocking.specs.Answers.{offerOf}
@@ -33,7 +34,7 @@ a & b = (a, b)
 pub starred : AllHold rows
 unfolding isIn bandFrom entriesOnward sheetOf anyBelow allBelow countBelow sumBelow lowestFrom joined firstFault
     faultBelow visibleRun allZero labelOk sameBytes repeats labelBad labelsFault entryIn entriesFrom bandIn
-    entryFault unreturned sheetFaults sheetFault squareUpTo emptyAcross isPaired isPlaced isMatching
+    entryFault only sheetFaults sheetFault placed isPaired isPlaced isMatching
     pairedJoints aloneCount welcomes isApart blocks blocker blockingPair isSuperStable offerOf bestBand
     worstBand firstOn strikeIf listWaits proposed proposeAll receiveAll step runOut someEmptied trial
     asideBelow noneEmptied cutAt inTwo endOne inOne move ruled moves concluded worked partnerOn pairingOf entry listBytes
@@ -46,5 +47,7 @@ starred =
     & (refl, refl) & (refl, refl) & (refl, refl)
     & (refl, refl) & (refl, refl) & (refl, refl)
     & refl & refl & refl & refl
+    & refl & refl & refl & refl
+    & (refl, refl) & (refl, refl) & (refl, refl)
     & refl & refl & refl & refl
     & record {}

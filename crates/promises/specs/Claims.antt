@@ -7,11 +7,14 @@ use Prim.Native.Nat.{ℕ, _+_, _*_, _/_, _%_, _≤_, _<_}
 use lib.Dec.{eqb}
 use lib.ListN.{length, take, drop}
 use Rattle.base.specs.Claims.{First}
+use Rattle.sections.specs.Entries.{bandIn}
+use Rattle.sections.specs.Claims.{Each}
+use Rattle.square.specs.Mutual.{mutualBand, listedPairs}
 use Rattle.sheet.specs.Format.{joints, rankCount, countStart, entriesOf}
 use Rattle.sheet.specs.Refusals.{sheetFault}
 use Rattle.sheet.specs.Square.{at, squareOf}
 use Rattle.blocking.specs.declared.Checked.the-variants as C
-use Rattle.matching.specs.Matchings.{partner, pairCount}
+use Rattle.matching.specs.Matchings.{partner, pairCount, pairNumber}
 use Rattle.blocking.specs.Blocking.{isSuperStable}
 use Rattle.matching.specs.Plain.{Matching}
 use Rattle.blocking.specs.Plain.{SuperStable, LowestBlocking}
@@ -20,7 +23,7 @@ use Rattle.roommates.specs.Moves.{worked}
 use Rattle.roommates.specs.Runs.{OneEnded, Arrived}
 use Rattle.roommates.specs.Histories.{proposalsIn, stepsTo, cutsTo}
 use Rattle.roommates.specs.Claims.{RefusedBy}
-use Rattle.relisting.specs.Written.{left, bytesOf, countBytes}
+use Rattle.relisting.specs.Written.{left, bytesOf, countBytes, without}
 use Rattle.relisting.specs.Claims.{SheetWith}
 use Rattle.calls.specs.Checks.{checkFaults, checkOf}
 use Rattle.calls.specs.declared.Phase.{Phase}
@@ -54,6 +57,8 @@ pub record ListsAre (s before after : List ℕ) (k : ℕ) : Type 0 where
   -- the entries of the sheet whose pairs are not struck there, with the sheet's bands and in the sheet's order, after their count
   pub entries : take (2 + 3 * k) after ≡ countBytes k ++ bytesOf (left (end .lists) (entriesOf s))
   pub how-many : length (left (end .lists) (entriesOf s)) ≡ k
+  -- each of them is returned
+  pub returned : Each (λ e. 0 < bandIn (entriesOf s) (e .other) (e .joint)) (left (end .lists) (entriesOf s))
   -- a sheet with the same labels and these bytes as its rankings is accepted, with the lists left as its square
   pub reads-back : SheetWith s (end .lists) (take (countStart s) s ++ take (2 + 3 * k) after)
   pub at-most : k ≤ 128 * 127
@@ -67,10 +72,10 @@ pub record CountsAre (whole : Bool) (s cs : List ℕ) : Type 0 where
   pub proposals-are : countsOf whole s cs .proposals ≡ proposalsIn (stepsTo arrived .1)
   pub cuts-are : countsOf whole s cs .cuts ≡ cutsTo arrived
 
--- When a call refuses, number by number and both ways. The sheet's own refusal is f (0 for none), `choice` is the one that the counts name beside the working,
+-- When a call refuses, number by number and both ways; there is no 7. The sheet's own refusal is f (0 for none), `choice` is the one that the counts name beside the working,
 -- and `need` bytes are due in a buffer of `room`.
 pub record Refuses (f choice need room : ℕ) (Refused : ℕ → Type 0) : Type 0 where
-  pub numbers : (k : ℕ) → Refused k → ((1 ≤ k) × (k ≤ 9)) ⊎ ((11 ≤ k) × (k ≤ 13))
+  pub numbers : (k : ℕ) → Refused k → ((1 ≤ k) × (k ≤ 6)) ⊎ (((8 ≤ k) × (k ≤ 9)) ⊎ ((11 ≤ k) × (k ≤ 13)))
   pub by-sheet : (k : ℕ) → 1 ≤ k → k ≤ 8 → Refused k ↔ (f ≡ k)
   pub by-buffer : Refused 9 ↔ ((f ≡ 0) × (room < need))
   pub by-choice : (k : ℕ) → 11 ≤ k → Refused k ↔ ((need ≤ room) × (choice ≡ k))
@@ -113,7 +118,9 @@ pub record CallsKeep (s : List ℕ) : Type 0 where
   -- COUNTS, beside refused choices too: of settle's working (true) and of shorten's (false)
   pub counts-are : (whole : Bool) (cs : List ℕ) → sheetFault s ≡ 0 → CountsAre whole s cs
   pub few-proposals : (whole : Bool) (cs : List ℕ) → countsOf whole s cs .proposals ≤ joints s * joints s
-  pub few-cuts : (whole : Bool) (cs : List ℕ) → 2 * countsOf whole s cs .cuts ≤ rankCount s
+  -- no more cuts than listed pairs, which are at most half the sheet's entries
+  pub few-cuts : (whole : Bool) (cs : List ℕ) → countsOf whole s cs .cuts ≤ listedPairs (entriesOf s)
+  pub pairs-half : sheetFault s ≡ 0 → 2 * listedPairs (entriesOf s) ≤ rankCount s
   pub no-cuts : (cs : List ℕ) → countsOf false s cs .cuts ≡ 0
   -- both are small whatever the sheet
   pub counts-small : (whole : Bool) (cs : List ℕ) → (countsOf whole s cs .proposals ≤ 16384) × (countsOf whole s cs .cuts ≤ 16384)
@@ -123,6 +130,7 @@ pub record CallsKeep (s : List ℕ) : Type 0 where
 -- CHECK, for every sheet s and offered pairing m.
 pub record CheckKeeps (s m : List ℕ) : Type 0 where
   pub check-first : (k : ℕ) → checkOf s m ≡ C.Refused k ↔ First k (checkFaults s m)
+  pub check-numbers : (k : ℕ) → checkOf s m ≡ C.Refused k → ((1 ≤ k) × (k ≤ 6)) ⊎ ((k ≡ 8) ⊎ (k ≡ 10))
   -- a refused sheet hands on its number; 10: the sheet is accepted, and what is offered is no matching
   pub check-sheet : (k : ℕ) → 1 ≤ k → k ≤ 8 → checkOf s m ≡ C.Refused k ↔ (sheetFault s ≡ k)
   pub check-ten : checkOf s m ≡ C.Refused 10
@@ -135,3 +143,20 @@ pub record CheckKeeps (s m : List ℕ) : Type 0 where
       ↔ (sheetFault s ≡ 0)
       × ((length m ≡ joints s) × Matching (joints s) (at (squareOf s)) (partner m))
       × LowestBlocking (joints s) (at (squareOf s)) (partner m) k
+
+-- ONE-SIDED ENTRIES, whose candidate does not list their joint, count as unlisted everywhere.
+pub record OneSided (s : List ℕ) : Type 0 where
+  -- the sheet without them gets the same answers; for shorten where the buffer is long enough for s, since its size still goes by m
+  pub settle-alike : (cs out : List ℕ) → (settleAnswer s cs out ≡ settleAnswer (without s) cs out) × (settleBytes s cs out ≡ settleBytes (without s) cs out)
+  pub shorten-alike : (cs out : List ℕ) → 2 + 3 * rankCount s ≤ length out
+      → (shortenAnswer s cs out ≡ shortenAnswer (without s) cs out) × (shortenBytes s cs out ≡ shortenBytes (without s) cs out)
+  pub counts-alike : (whole : Bool) (cs : List ℕ) → countsOf whole s cs ≡ countsOf whole (without s) cs
+  pub check-alike : (m : List ℕ) → checkOf s m ≡ checkOf (without s) m
+  -- an offered pairing that pairs two joints which do not list each other is refused by 10
+  pub offered-ten : (m : List ℕ) (a : ℕ) → a < joints s → partner m a ≢ 255 → mutualBand (entriesOf s) a (partner m a) ≡ 0 → checkOf s m ≡ C.Refused 10
+  -- and only two joints that list each other block
+  pub blocked-both : (m : List ℕ) (k : ℕ) → checkOf s m ≡ C.Blocked k
+      → (a : ℕ) × (b : ℕ) × (k ≡ pairNumber a b) × (0 < bandIn (entriesOf s) a b) × (0 < bandIn (entriesOf s) b a)
+
+abbrev pub Unlisted : Type 0
+Unlisted = (s : List ℕ) → sheetFault s ≡ 0 → OneSided s

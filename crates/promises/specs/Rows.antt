@@ -1,5 +1,5 @@
--- The starred rows of document 01, "Sheets to try", and rows of the same sheets that call shorten and the counts: for each call what it
--- answers, and the buffer before and after settle and shorten.
+-- The starred rows of document 01, "Sheets to try", rows of the same sheets that call shorten and the counts, and rows of a sheet with an
+-- entry that is not returned: for each call what it answers, and the buffer before and after settle and shorten.
 use mathlib.Core.Path.{_≡_}
 use mathlib.Core.Bool.{Bool, true, false, _||_, cond}
 use mathlib.Core.List.{List, [], _∷_, _++_}
@@ -92,6 +92,10 @@ abbrev pub sheet-i : List ℕ
 sheet-i =
     sheetOf ((only 1 ∷ tie 2 3 ∷ []) ∷ (only 0 ∷ tie 2 3 ∷ []) ∷ (only 3 ∷ tie 0 1 ∷ []) ∷ (only 2 ∷ tie 0 1 ∷ []) ∷ [])
 
+-- 0: 2 1; 1: 0; 2 lists nobody, so joint 0's first is not returned
+abbrev pub sheet-one-sided : List ℕ
+sheet-one-sided = sheetOf ((only 2 ∷ only 1 ∷ []) ∷ (only 0 ∷ []) ∷ [] ∷ [])
+
 -- A ROW: settle or shorten with its choices and buffer, its answer and the buffer after it; check with a pairing, and its answer; the counts
 -- of settle's working (true) or shorten's: the number of a refused choice, proposals, cuts.
 pub data Row : Type 0 where
@@ -157,4 +161,12 @@ rows =
     ∷ counts-row true sheet-f (0 ∷ 1 ∷ 2 ∷ 3 ∷ []) 12 3 0
     ∷ counts-row true sheet-d (0 ∷ 1 ∷ 0 ∷ []) 13 4 0
     ∷ counts-row true sheet-f (0 ∷ 1 ∷ 2 ∷ 0 ∷ 0 ∷ []) 13 3 1
+    -- the one-sided entry: nobody proposes by it, it is not written, and its pair is not offered and does not block; 9 still goes by it
+    ∷ settle-row sheet-one-sided [] (buffer 5) (S.Ended (E.Paired 1)) (1 ∷ 0 ∷ 255 ∷ 9 ∷ 9 ∷ [])
+    ∷ shorten-row sheet-one-sided [] (buffer 13) (L.Lists 2) (2 ∷ 0 ∷ entry 0 1 2 (entry 1 0 1 (buffer 5)))
+    ∷ shorten-row sheet-one-sided [] (buffer 10) (L.Refused 9) (buffer 10)
+    ∷ counts-row true sheet-one-sided [] 0 2 0
+    ∷ check-row sheet-one-sided (2 ∷ 255 ∷ 0 ∷ []) (C.Refused 10)
+    ∷ check-row sheet-one-sided (1 ∷ 0 ∷ 255 ∷ []) C.Holds
+    ∷ check-row sheet-one-sided (255 ∷ 255 ∷ 255 ∷ []) (C.Blocked 0)
     ∷ []

@@ -20,7 +20,17 @@ fn band(bands: &[u8; 64], a: usize, b: usize) -> u8
     bands[8 * a + b]
 }
 
-// Is a neither unpaired nor paired with a joint that it lists and that has it as its partner?
+// Do a and b list each other?
+fn are_listed(bands: &[u8; 64], a: usize, b: usize) -> bool
+    requires { ⌜ (a < 8) × (b < 8) ⌝ }
+{
+    if band(bands, a, b) == 0 {
+        return false;
+    }
+    band(bands, b, a) != 0
+}
+
+// Is a neither unpaired nor paired with a joint that has it as its partner, where the two list each other?
 fn is_misfit(bands: &[u8; 64], m: &[u8; 8], a: usize) -> bool
     requires { ⌜ a < 8 ⌝ }
 {
@@ -31,7 +41,7 @@ fn is_misfit(bands: &[u8; 64], m: &[u8; 8], a: usize) -> bool
     if wide(m[p]) != a {
         return true;
     }
-    band(bands, a, p) == 0
+    !are_listed(bands, a, p)
 }
 
 fn is_matching(bands: &[u8; 64], m: &[u8; 8]) -> bool {
@@ -53,18 +63,17 @@ fn held(bands: &[u8; 64], m: &[u8; 8], a: usize) -> u8
     if p < 8 { band(bands, a, p) } else { 255 }
 }
 
-// Is b listed by a, and not its partner, in a band no worse than its partner's?
+// Is b on a's list, as a on b's, and not its partner, in a band no worse than its partner's?
 fn wants(bands: &[u8; 64], m: &[u8; 8], a: usize, b: usize) -> bool
     requires { ⌜ (a < 8) × (b < 8) ⌝ }
 {
-    let k = band(bands, a, b);
-    if k == 0 {
+    if !are_listed(bands, a, b) {
         return false;
     }
     if wide(m[a]) == b {
         return false;
     }
-    k <= held(bands, m, a)
+    band(bands, a, b) <= held(bands, m, a)
 }
 
 fn block(bands: &[u8; 64], m: &[u8; 8], a: usize, b: usize) -> bool

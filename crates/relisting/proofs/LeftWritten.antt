@@ -4,22 +4,25 @@ use mathlib.Core.List.{List, _++_}
 use Prim.Native.Nat.{ℕ}
 use native.Mathlib.Omega.{arith}
 use lib.ListN.{length}
+use borrow.Author.Tests.{lt-ltb}
 use Rattle.base.proofs.Cases.{case, lt-ge}
+use Rattle.base.proofs.Tests.{unlisted}
 use Rattle.sections.specs.declared.Entry.{Entry}
 use Rattle.sections.specs.Entries.{bandIn}
-use Rattle.sections.specs.Claims.{Sound}
+use Rattle.sections.specs.Claims.{Sound, Each, Ascending}
+use Rattle.square.specs.Mutual.{mutualBand}
+use Rattle.square.proofs.Only.{only-each, only-ascends, only-same, only-none}
+use Rattle.square.proofs.MutualSquare.{mutual-listed}
 use Rattle.sheet.specs.Format.{joints, entriesOf}
 use Rattle.sheet.specs.Refusals.{sheetFault}
 use Rattle.sheet.specs.Square.{at, squareOf}
-use Rattle.sheet.specs.Promise.{Promise}
-use Rattle.sheet.proofs.PromiseKept.{accepted-promise, accepted-square, square-is-entries}
+use Rattle.sheet.proofs.PromiseKept.{accepted-entries, accepted-square, square-is-mutual}
 use Rattle.roommates.specs.Lists.{Square}
 use Rattle.roommates.specs.Left.{entries, entryCount, listBytes}
 use Rattle.roommates.proofs.EntriesWritten.{entries-length}
 use Rattle.relisting.specs.Written.{PairsStruck, left, bytesOf, countBytes}
 use Rattle.relisting.specs.Claims.{WrittenEntries}
 use Rattle.relisting.proofs.Strikes.{pairs-below}
-use Rattle.relisting.proofs.LeftEntries.{Each, Ascending, left-each, left-ascends, left-none, left-same}
 use Rattle.relisting.proofs.ListedEntries.{entries-table, table-same, listed-bytes}
 use Rattle.relisting.proofs.EntryBytes.{bytes-length}
 
@@ -29,26 +32,22 @@ pub record EntriesOn (n : ℕ) (u : Square) (es : List Entry) : Type 0 where
   pub ascending : Ascending es
   pub bands : (a b : ℕ) → at u a b ≡ bandIn es a b
 
-promise-each : {n : ℕ} {es : List Entry} → Promise n es → Each (Sound n) es
-promise-each p j l = record {
-  joint-below = p .joint-below j l;
-  other-below = p .other-below j l;
-  not-itself = p .not-itself j l;
-  band-above = p .band-above j l;
-  band-below = p .band-below j l;
-}
-
 pub left-on : (s : List ℕ) (u : Square) → sheetFault s ≡ 0 → PairsStruck (squareOf s) u → EntriesOn (joints s) u (left u (entriesOf s))
 left-on s u h r =
-    let p = accepted-promise s h in
+    let es : List Entry = entriesOf s in
+    let (each, ascending) = accepted-entries s h in
     let below = pairs-below (accepted-square s h) r in
     record {
-      each = left-each u (Sound (joints s)) (entriesOf s) (promise-each p);
-      ascending = left-ascends u (entriesOf s) (p .ascending);
+      each = only-each _ (Sound (joints s)) es each;
+      ascending = only-ascends _ es ascending;
       bands = λ a b.
           case (lt-ge 0 (at u a b))
-          (λ l. below .kept a b l ∙ square-is-entries s h a b ∙ sym (left-same u a b l (entriesOf s)))
-          (λ g. let z : at u a b ≡ 0 = omega arith in z ∙ sym (left-none u a b z (entriesOf s)));
+          (λ l.
+          let kept = below .kept a b l in
+          let place = square-is-mutual s h a b in
+          let own : mutualBand es a b ≡ bandIn es a b = mutual-listed es a b (omega arith) .0 in
+          kept ∙ place ∙ own ∙ sym (only-same _ a b (lt-ltb 0 (at u a b) l) es))
+          (λ g. let z : at u a b ≡ 0 = omega arith in z ∙ sym (only-none _ a b (unlisted (at u a b) z) es));
     }
 
 -- their bytes, and how many they are

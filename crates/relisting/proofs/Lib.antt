@@ -1,6 +1,5 @@
 -- Lists with pairs struck, the entries left and their bytes, and the sheet that has them as its rankings.
 pub mod Strikes
-pub mod LeftEntries
 pub mod ListedEntries
 pub mod EntryBytes
 pub mod LeftWritten

@@ -13,13 +13,12 @@ use Rattle.base.proofs.Tests.{unlisted}
 use Rattle.base.proofs.Joined.{joined-empty, Front, joined-front, joined-same}
 use Rattle.sections.specs.declared.Entry.{Entry}
 use Rattle.sections.specs.Entries.{bandIn, entryOf}
-use Rattle.sections.specs.Claims.{Sound}
+use Rattle.sections.specs.Claims.{Sound, Each, Ascending}
 use Rattle.sections.proofs.BandIn.{band-here, band-elsewhere, band-nowhere}
 use Rattle.sheet.specs.Square.{at}
 use Rattle.roommates.specs.Lists.{Square}
 use Rattle.roommates.specs.Left.{entry, entries}
 use Rattle.relisting.specs.Written.{bytesOf}
-use Rattle.relisting.proofs.LeftEntries.{Each, Ascending}
 
 -- ONE PLACE, with its band
 abbrev cell : ℕ → ℕ → ℕ → List ℕ

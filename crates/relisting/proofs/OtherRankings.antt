@@ -1,6 +1,5 @@
--- An accepted sheet with other rankings: entries that ascend, are sound and returned. It is accepted, and has its labels and these entries.
+-- An accepted sheet with other rankings: entries that ascend and are sound. It is accepted, and has its labels and these entries.
 use mathlib.Core.Path.{_≡_, sym, ap, _∙_}
-use mathlib.Core.Bool.{false}
 use mathlib.Core.List.{List, _++_}
 use mathlib.Core.Logic.{_≢_}
 use Prim.Native.Nat.{ℕ, _+_, _*_, _/_, _%_, _≤_, _<_}
@@ -8,28 +7,22 @@ use native.Mathlib.Nat.{add-zero}
 use native.Mathlib.Omega.{arith}
 use lib.ListN.{length, take, drop, getD, length-append, length-drop, take-append-drop, List·getD-append}
 use lib.Seq.{length-take-le, getD-take, getD-append-add, drop-append-add, drop-drop, take-append-le, drop-append-le}
-use borrow.Author.Tests.{ne-eqb}
-use Rattle.base.proofs.AnyBelow.{none-any}
 use Rattle.sections.specs.declared.Entry.{Entry}
 use Rattle.sections.specs.Labels.{labelWidth, labelIn, labelsFault}
-use Rattle.sections.specs.Entries.{bandIn, entriesFault, entryOf}
-use Rattle.sections.specs.Claims.{GoodLabels, GoodEntries, Sound}
+use Rattle.sections.specs.Entries.{entriesFault}
+use Rattle.sections.specs.Claims.{GoodLabels, GoodEntries, Sound, Each, Ascending}
 use Rattle.sections.proofs.LabelRule.{labels-rule}
 use Rattle.sections.proofs.EntryFaults.{entries-rule}
 use Rattle.sheet.specs.Format.{joints, labelsPart, labelOf, countStart, rankCount, rankingsPart, sheetEnd, entriesOf}
-use Rattle.sheet.specs.Refusals.{unreturned, someUnreturned, sheetFault}
+use Rattle.sheet.specs.Refusals.{sheetFault}
 use Rattle.sheet.proofs.Accepted.{Accepted}
 use Rattle.sheet.proofs.SheetLaws.{all-there, faultless}
-use Rattle.relisting.specs.Written.{bytesOf, countBytes}
-use Rattle.relisting.proofs.LeftEntries.{Each, Ascending}
+use Rattle.relisting.specs.Written.{bytesOf, countBytes, ranked}
 use Rattle.relisting.proofs.EntryBytes.{bytes-length, byte-entry, entries-back}
 
 -- the bytes of s before its rankings
 abbrev front : List ℕ → List ℕ
 front s = take (countStart s) s
-
-unfoldable pub ranked : List ℕ → List Entry → List ℕ
-ranked s es = front s ++ (countBytes (length es) ++ bytesOf es)
 
 -- bytes within the first part of two are its own
 within : (k w : ℕ) (p l : List ℕ) → k + w ≤ length p → take w (drop k (p ++ l)) ≡ take w (drop k p)
@@ -117,17 +110,10 @@ module _ (s : List ℕ) (x : Accepted s) (es : List Entry) where
     ranked-clean : entriesFault (rankCount (ranked s es)) (joints (ranked s es)) (rankingsPart (ranked s es)) ≡ 0
     ranked-clean = rw (ranked-part, ranked-count, ranked-joints) (entries-rule (length es) (joints s) (bytesOf es) .1 good-entries)
 
-    module _ (returned : Each (λ e. 0 < bandIn es (e .other) (e .joint)) es) where
-      ranked-returned : someUnreturned (ranked s es) ≡ false
-      unfolding unreturned
-      ranked-returned = rw (ranked-count, ranked-part)
-          (none-any (length es) _
-          (λ j l. rw (entries-back es, byte-entry es j l) (let h = returned j l in ne-eqb (bandIn es (entryOf es j .other) (entryOf es j .joint)) 0 (λ z. omega arith))))
-
-      pub ranked-accepted : sheetFault (ranked s es) ≡ 0
-      ranked-accepted =
-          let exact = ranked-exact in
-          let few : joints (ranked s es) ≤ 128 = rw ranked-joints (x .few-joints) in
-          let some : length (ranked s es) ≢ 0 = λ z. omega arith in
-          let lie = all-there (ranked s es) some few ranked-labels (omega arith) (omega arith) (omega arith) in
-          faultless (ranked s es) lie ranked-clean ranked-returned
+    pub ranked-accepted : sheetFault (ranked s es) ≡ 0
+    ranked-accepted =
+        let exact = ranked-exact in
+        let few : joints (ranked s es) ≤ 128 = rw ranked-joints (x .few-joints) in
+        let some : length (ranked s es) ≢ 0 = λ z. omega arith in
+        let lie = all-there (ranked s es) some few ranked-labels (omega arith) (omega arith) (omega arith) in
+        faultless (ranked s es) lie ranked-clean

@@ -1,24 +1,33 @@
 -- The sheet with shorten's bytes as its rankings has the lists left as its square.
-use mathlib.Core.Path.{_≡_, sym, ap, _∙_}
+use mathlib.Core.Path.{_≡_, refl, sym, ap, _∙_}
+use mathlib.Core.Bool.{Bool, true, false, cond}
 use mathlib.Core.List.{List, [], _++_}
+use mathlib.Core.Logic.{inl}
 use Prim.Native.Nat.{ℕ, _<_}
 use native.Mathlib.Omega.{arith}
+use lib.Dec.{ltb}
 use lib.ListN.{take}
 use lib.Seq.{ext-getD}
+use borrow.Author.Tests.{lt-ltb, ltb-true}
+use Rattle.base.proofs.Tests.{unlisted}
 use Rattle.sections.specs.declared.Entry.{Entry}
-use Rattle.sections.specs.Entries.{bandIn}
-use Rattle.sheet.specs.Format.{countStart, entriesOf}
+use Rattle.sections.specs.Entries.{entryOf, bandIn}
+use Rattle.square.specs.Mutual.{returned, mutualEntries}
+use Rattle.square.proofs.Only.{only-passes, only-agree}
+use Rattle.square.proofs.Bands.{own-listed}
+use Rattle.square.proofs.MutualSquare.{mutual-listed}
+use Rattle.sheet.specs.Format.{joints, countStart, entriesOf}
 use Rattle.sheet.specs.Refusals.{sheetFault}
 use Rattle.sheet.specs.Square.{at, squareOf, SquarePromise}
+use Rattle.sheet.specs.Promise.{MutualListing}
 use Rattle.sheet.proofs.Accepted.{accepted}
-use Rattle.sheet.proofs.PromiseKept.{accepted-square, square-is-entries}
+use Rattle.sheet.proofs.PromiseKept.{accepted-entries, accepted-square, square-is-mutual, square-is-entries}
 use Rattle.roommates.specs.Lists.{Square, row}
-use Rattle.relisting.specs.Written.{PairsStruck, left, relisted}
-use Rattle.relisting.specs.Claims.{ReadsBack}
+use Rattle.relisting.specs.Written.{PairsStruck, left, relisted, ranked, without}
+use Rattle.relisting.specs.Claims.{ReadsBack, WrittenReturned, WithoutSame}
 use Rattle.relisting.proofs.Strikes.{pairs-below}
-use Rattle.relisting.proofs.LeftEntries.{Each, left-listed}
 use Rattle.relisting.proofs.LeftWritten.{left-on, on-count, on-written}
-use Rattle.relisting.proofs.OtherRankings.{ranked, ranked-joints, ranked-label, ranked-count, ranked-entries, ranked-accepted}
+use Rattle.relisting.proofs.OtherRankings.{ranked-joints, ranked-label, ranked-count, ranked-entries, ranked-accepted}
 
 -- squares of 128 rows of 128 with the same places are the same
 same-places : {n : ℕ} {s t u : Square} → SquarePromise n t → PairsStruck s u → ((a b : ℕ) → at t a b ≡ at u a b) → t ≡ u
@@ -38,10 +47,10 @@ reads-back s u h r =
     let x = accepted s h in
     let on = left-on s u h r in
     let both = pairs-below (accepted-square s h) r .both in
-    let returned : Each (λ e. 0 < bandIn es (e .other) (e .joint)) es = λ j l. rw (← on .bands _ _) (both _ _ (left-listed u (entriesOf s) j l)) in
-    let good : sheetFault (ranked s es) ≡ 0 = ranked-accepted s x es (on .each) (on .ascending) returned in
+    let mutuals : MutualListing es = λ a b l. rw (← on .bands b a) (both a b (rw (← on .bands a b) at l)) in
+    let good : sheetFault (ranked s es) ≡ 0 = ranked-accepted s x es (on .each) (on .ascending) in
     let square : squareOf (ranked s es) ≡ u = same-places (accepted-square (ranked s es) good) r
-    (λ a b. square-is-entries (ranked s es) good a b ∙ rw (ranked-entries s x es) (sym (on .bands a b))) in
+    (λ a b. square-is-entries (ranked s es) good (rw (ranked-entries s x es) mutuals) a b ∙ rw (ranked-entries s x es) (sym (on .bands a b))) in
     rw (relisted-is s u h r) record {
       accepted = good;
       same-joints = ranked-joints s x es;
@@ -50,3 +59,33 @@ reads-back s u h r =
       entries-left = ranked-entries s x es;
       same-square = square;
     }
+
+pub written-returned : WrittenReturned
+written-returned s u h r j l =
+    let e : Entry = entryOf (left u (entriesOf s)) j in
+    let listed : 0 < at u (e .joint) (e .other) = ltb-true 0 _ (only-passes (λ a b. ltb 0 (at u a b)) (entriesOf s) j l) in
+    let kept = pairs-below (accepted-square s h) r .kept (e .joint) (e .other) listed in
+    mutual-listed (entriesOf s) (e .joint) (e .other) (rw (kept, square-is-mutual s h) at listed) .1
+
+-- THE SHEET WITHOUT ITS ONE-SIDED ENTRIES: those left on its own square are the mutual listings
+nothing-struck : {n : ℕ} {t : Square} → SquarePromise n t → PairsStruck t t
+nothing-struck p = record { rows = p .rows; row-length = p .row; places = λ a b. inl refl }
+
+left-mutual : (s : List ℕ) → sheetFault s ≡ 0 → left (squareOf s) (entriesOf s) ≡ mutualEntries (entriesOf s)
+left-mutual s h =
+    let es : List Entry = entriesOf s in
+    only-agree _ (returned es) es λ j l.
+    let e : Entry = entryOf es j in
+    let own = own-listed (joints s) es (accepted-entries s h .0) j l in
+    rw (square-is-mutual s h (e .joint) (e .other)) (kept-own (returned es (e .joint) (e .other)) (bandIn es (e .joint) (e .other)) own)
+  where
+    kept-own : (b : Bool) (k : ℕ) → 0 < k → ltb 0 (cond b k 0) ≡ b
+    kept-own true k l = lt-ltb 0 k l
+    kept-own false k l = unlisted 0 refl
+
+pub without-same : WithoutSame
+without-same s h =
+    let x = accepted s h in
+    let r = nothing-struck (accepted-square s h) in
+    let same : relisted s (squareOf s) ≡ without s = relisted-is s (squareOf s) h r ∙ ap (ranked s) (left-mutual s h) in
+    (rw same at (reads-back s (squareOf s) h r), ranked-entries s x (mutualEntries (entriesOf s)))

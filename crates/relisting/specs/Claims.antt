@@ -3,13 +3,16 @@ use mathlib.Core.Path.{_≡_}
 use mathlib.Core.List.{List, _++_}
 use Prim.Native.Nat.{ℕ, _<_}
 use lib.ListN.{length}
+use Rattle.sections.specs.Entries.{bandIn}
+use Rattle.sections.specs.Claims.{Each}
+use Rattle.square.specs.Mutual.{mutualEntries}
 use Rattle.sheet.specs.Format.{joints, rankCount, labelOf, entriesOf}
 use Rattle.sheet.specs.Refusals.{sheetFault}
 use Rattle.sheet.specs.Square.{squareOf}
 use Rattle.roommates.specs.Lists.{Square}
 use Rattle.roommates.specs.Moves.{shortens}
 use Rattle.roommates.specs.Left.{entryCount, listBytes}
-use Rattle.relisting.specs.Written.{PairsStruck, left, bytesOf, countBytes, relisted}
+use Rattle.relisting.specs.Written.{PairsStruck, left, bytesOf, countBytes, relisted, without}
 
 -- shorten's lists are the sheet's with some pairs struck, whatever the choices
 abbrev pub ShortenStrikes : Type 0
@@ -19,6 +22,11 @@ ShortenStrikes = (s cs : List ℕ) → sheetFault s ≡ 0 → PairsStruck (squar
 abbrev pub WrittenEntries : Type 0
 WrittenEntries = (s : List ℕ) (u : Square) → sheetFault s ≡ 0 → PairsStruck (squareOf s) u
     → listBytes (joints s) u ≡ countBytes (length (left u (entriesOf s))) ++ bytesOf (left u (entriesOf s))
+
+-- All of them are returned: the sheet has an entry of their candidate for their joint.
+abbrev pub WrittenReturned : Type 0
+WrittenReturned = (s : List ℕ) (u : Square) → sheetFault s ≡ 0 → PairsStruck (squareOf s) u
+    → Each (λ e. 0 < bandIn (entriesOf s) (e .other) (e .joint)) (left u (entriesOf s))
 
 -- A sheet r that is accepted, with the joints and the labels of s, and with the lists u as its square.
 pub record SheetWith (s : List ℕ) (u : Square) (r : List ℕ) : Type 0 where
@@ -32,3 +40,7 @@ pub record SheetWith (s : List ℕ) (u : Square) (r : List ℕ) : Type 0 where
 -- The sheet with the same labels and with shorten's bytes as its rankings is one.
 abbrev pub ReadsBack : Type 0
 ReadsBack = (s : List ℕ) (u : Square) → sheetFault s ≡ 0 → PairsStruck (squareOf s) u → SheetWith s u (relisted s u)
+
+-- So is the sheet without its one-sided entries, with the same square; its entries are the mutual listings.
+abbrev pub WithoutSame : Type 0
+WithoutSame = (s : List ℕ) → sheetFault s ≡ 0 → SheetWith s (squareOf s) (without s) × (entriesOf (without s) ≡ mutualEntries (entriesOf s))

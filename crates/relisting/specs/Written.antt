@@ -1,13 +1,13 @@
 -- The entries of a sheet that are left where pairs are struck, and the sheet that has them as its rankings.
 use mathlib.Core.Path.{_≡_}
-use mathlib.Core.Bool.{cond}
 use mathlib.Core.List.{List, [], _∷_, _++_}
 use mathlib.Core.Logic.{_⊎_}
 use Prim.Native.Nat.{ℕ, _/_, _%_, _<_}
 use lib.Dec.{ltb}
 use lib.ListN.{length, take}
 use Rattle.sections.specs.declared.Entry.{Entry}
-use Rattle.sheet.specs.Format.{joints, countStart}
+use Rattle.square.specs.Mutual.{only, mutualEntries}
+use Rattle.sheet.specs.Format.{joints, countStart, entriesOf}
 use Rattle.sheet.specs.Square.{at}
 use Rattle.roommates.specs.Lists.{Square, row}
 use Rattle.roommates.specs.Left.{listBytes}
@@ -19,9 +19,8 @@ pub record PairsStruck (t u : Square) : Type 0 where
   pub places : (a b : ℕ) → (at u a b ≡ at t a b) ⊎ ((at u a b ≡ 0) × (at u b a ≡ 0))
 
 -- those of the entries whose pairs are not struck, in their order
-unfoldable pub left : Square → List Entry → List Entry
-left u [] = []
-left u (e ∷ es) = cond (ltb 0 (at u (e .joint) (e .other))) (e ∷ left u es) (left u es)
+abbrev pub left : Square → List Entry → List Entry
+left u es = only (λ a b. ltb 0 (at u a b)) es
 
 -- entries as a sheet has them, three bytes each: joint, candidate, band
 unfoldable pub bytesOf : List Entry → List ℕ
@@ -35,3 +34,10 @@ countBytes k = (k % 256) ∷ ((k / 256) ∷ [])
 -- the sheet s with the lists u as its rankings: its joints and labels, then what shorten writes
 unfoldable pub relisted : List ℕ → Square → List ℕ
 relisted s u = take (countStart s) s ++ listBytes (joints s) u
+
+-- the sheet s with other entries as its rankings; and with its mutual listings alone, so without its one-sided entries
+unfoldable pub ranked : List ℕ → List Entry → List ℕ
+ranked s es = take (countStart s) s ++ (countBytes (length es) ++ bytesOf es)
+
+abbrev pub without : List ℕ → List ℕ
+without s = ranked s (mutualEntries (entriesOf s))

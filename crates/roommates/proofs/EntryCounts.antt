@@ -85,8 +85,8 @@ entries-struck n t u a b la lb ne s ab ba zab zba =
     (length-struck n (row t b) (row u b) a la (s .kept b) ba zba)
 
 -- where listing is mutual and nobody lists itself, the entries come in pairs
-pub entries-even : (n : ℕ) (t : Square) → ((a b : ℕ) → 0 < at t a b → 0 < at t b a) → ((a : ℕ) → at t a a ≡ 0) → (h : ℕ) × (entryCount n t ≡ 2 * h)
-entries-even n t both diagonal = (halfSum n (marks t), entries-marks n t ∙ sum-even n (marks t) across (λ a. mark-none _ (diagonal a)))
+pub entries-even : (n : ℕ) (t : Square) → ((a b : ℕ) → 0 < at t a b → 0 < at t b a) → ((a : ℕ) → at t a a ≡ 0) → entryCount n t ≡ 2 * halfSum n (marks t)
+entries-even n t both diagonal = entries-marks n t ∙ sum-even n (marks t) across (λ a. mark-none _ (diagonal a))
   where
     across : (a b : ℕ) → marks t a b ≡ marks t b a
     across a b =

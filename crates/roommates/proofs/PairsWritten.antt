@@ -104,6 +104,5 @@ pairs-exact n t s one =
     let few : n ≤ 128 = s .few-joints in
     let e : pairedJoints (pairingOf n t) ≡ listedJoints n t = paired-listed n t (omega arith) in
     let g : listedJoints n t ≡ entryCount n t = listed-entries n t one in
-    let h : (h : ℕ) × (entryCount n t ≡ 2 * h) = entries-even n t (s .both) (s .not-itself) in
-    let m : entryCount n t ≡ 2 * h .0 = h .1 in
+    let h = entries-even n t (s .both) (s .not-itself) in
     omega arith

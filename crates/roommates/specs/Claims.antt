@@ -5,7 +5,8 @@ use mathlib.Core.Logic.{_⊎_, _≢_, _↔_}
 use mathlib.Core.List.{List, [], _∷_, _++_}
 use Prim.Native.Nat.{ℕ, _*_, _≤_, _<_}
 use lib.Dec.{eqb}
-use Rattle.sheet.specs.Format.{joints, rankCount}
+use Rattle.square.specs.Mutual.{listedPairs}
+use Rattle.sheet.specs.Format.{joints, rankCount, entriesOf}
 use Rattle.sheet.specs.Refusals.{sheetFault}
 use Rattle.sheet.specs.Square.{SquarePromise, squareOf}
 use Rattle.matching.specs.Matchings.{partner, pairCount}
@@ -77,12 +78,16 @@ pub record Settled (n : ℕ) (t : Square) (settle shorten : List ℕ → Outcome
   -- without choices nothing is refused
   pub no-choices : (settle [] .refusal ≡ 0) × (shorten [] .refusal ≡ 0)
 
--- For every accepted sheet; its square lists just the sheet's entries, so that few-cuts is about their number.
+-- For every accepted sheet; its square lists each of the sheet's listed pairs twice, so few-cuts says that there are no more cuts than
+-- listed pairs, which are at most half the entries.
 abbrev pub Demands : Type 0
 Demands = (s : List ℕ) → sheetFault s ≡ 0 → Settled (joints s) (squareOf s) (settles (joints s) (squareOf s)) (shortens (joints s) (squareOf s))
 
 abbrev pub AllListed : Type 0
-AllListed = (s : List ℕ) → sheetFault s ≡ 0 → entryCount (joints s) (squareOf s) ≡ rankCount s
+AllListed = (s : List ℕ) → sheetFault s ≡ 0 → entryCount (joints s) (squareOf s) ≡ 2 * listedPairs (entriesOf s)
+
+abbrev pub PairsHalf : Type 0
+PairsHalf = (s : List ℕ) → sheetFault s ≡ 0 → 2 * listedPairs (entriesOf s) ≤ rankCount s
 
 -- THE REFUSALS OF CHOICES. From the working w the choices cs were made, each allowed where it was met, and left the working v.
 pub data Made (whole : Bool) (n : ℕ) : Work → List ℕ → Work → Type 0 where

@@ -10,6 +10,7 @@ use flags::with;
 use phases::cut;
 use phases::step;
 use phases::waiting;
+ghost use Prim.Native.Nat.{_<_};
 
 // Where a working stands: in a phase; at the number of a refused choice, below 100; or at its end.
 const PHASE_ONE: u32 = 1;
@@ -88,12 +89,22 @@ fn closed(w: Work) -> Work {
     next
 }
 
-// The pairs that have bands.
+// Have both joints of the pair at place k a band for the other? An entry without its return is struck before phase one.
+fn is_listed(bands: &[u8; 64], k: usize) -> bool
+    requires { ⌜ k < 64 ⌝ }
+{
+    if bands[k] == 0 {
+        return false;
+    }
+    bands[k % 8 * 8 + k / 8] != 0
+}
+
+// The pairs that are listed.
 fn listed_of(bands: [u8; 64]) -> u64 {
     let mut table = 0;
     let mut k = 0;
     while k < 64 {
-        table = with(table, k / 8, k % 8, bands[k] != 0);
+        table = with(table, k / 8, k % 8, is_listed(&bands, k));
         k += 1;
     }
     table

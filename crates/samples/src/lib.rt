@@ -1,10 +1,11 @@
 // Sheets of up to 8 joints from a fixed generator, for the test programs. Bands stand row by row, 8 to a joint, 0 for unlisted.
 ghost use Prim.Native.Nat.{_<_, _≤_};
 
-// Of four pairs about `skip` are not listed. Bands differ by up to `width`, below 64, and are worse by `turn`, one of 0, 2, 4 and 8,
-// for each joint between, round the ring of joints.
+// Of four pairs about `skip` are not listed; of eight others about `lone` are listed by one side alone. Bands differ by up to `width`,
+// below 64, and are worse by `turn`, one of 0, 2, 4 and 8, for each joint between, round the ring of joints.
 pub struct Style {
     pub skip: u32,
+    pub lone: u32,
     pub width: u32,
     pub turn: u32,
 }
@@ -58,7 +59,15 @@ fn with_band(bands: [u8; 64], a: usize, b: usize, band: u8) -> [u8; 64]
     more
 }
 
-// If a is below b and b below n: their pair is not listed, or each has a band in the other's list.
+// A band, or 0 on the side of a pair, 0 or 1, that does not list the other.
+fn kept(band: u8, x: u32, lone: u32, side: u32) -> u8 {
+    if lone <= x / 512 % 8 {
+        return band;
+    }
+    if x / 4096 % 2 == side { 0 } else { band }
+}
+
+// If a is below b and b below n: their pair is not listed, or each has a band in the other's list, or one of them alone.
 fn list_pair(drawn: Drawn, style: Style, n: usize, a: usize, b: usize) -> Drawn
     requires { ⌜ (a < 8) × (b < 8) × (n ≤ 8) ⌝ }
 {
@@ -78,10 +87,11 @@ fn list_pair(drawn: Drawn, style: Style, n: usize, a: usize, b: usize) -> Drawn
     }
     let z = next(y);
     let step = b - a;
-    let one = with_band(bands, a, b, band(y, style, step));
+    let lower = kept(band(y, style, step), z, style.lone, 0);
+    let higher = kept(band(z, style, n - step), z, style.lone, 1);
     Drawn {
         at: z,
-        bands: with_band(one, b, a, band(z, style, n - step)),
+        bands: with_band(with_band(bands, a, b, lower), b, a, higher),
     }
 }
 
@@ -168,4 +178,27 @@ pub fn drawn_sheet(n: usize, seed: u32, style: Style) -> Sheet
     requires { ⌜ n ≤ 8 ⌝ }
 {
     sheet_of(n, bands_of(n, seed, style))
+}
+
+// Is there a band at place k, and none for its return?
+fn lacks_return(bands: &[u8; 64], k: usize) -> bool
+    requires { ⌜ k < 64 ⌝ }
+{
+    if bands[k] == 0 {
+        return false;
+    }
+    bands[k % 8 * 8 + k / 8] == 0
+}
+
+// Has a sheet an entry that is not returned?
+pub fn is_one_sided(sheet: Sheet) -> bool {
+    let bands = sheet.bands;
+    let mut k = 0;
+    while k < 64 {
+        if lacks_return(&bands, k) {
+            return true;
+        }
+        k += 1;
+    }
+    false
 }

@@ -1,7 +1,7 @@
 -- The band of a place: that of the first entry with the place, 0 where none has it.
 use mathlib.Core.Path.{_≡_, refl, _∙_}
 use mathlib.Core.List.{List, [], _∷_}
-use Prim.Native.Nat.{ℕ, zero, suc, _<_}
+use Prim.Native.Nat.{ℕ, suc}
 use native.Mathlib.Omega.{arith}
 use lib.ListN.{length}
 use borrow.Author.Tests.{eq-eqb, ne-eqb}
@@ -26,10 +26,3 @@ unfolding bandIn
 band-nowhere [] a b none = refl
 band-nowhere (e ∷ es) a b none =
     band-elsewhere e es a b (none 0 (omega arith)) ∙ band-nowhere es a b (λ j l. none (suc j) (omega arith))
-
-pub band-first : (es : List Entry) (a b j : ℕ) → j < length es → Here (entryOf es j) a b → Nowhere j (entryOf es) a b
-    → bandIn es a b ≡ entryOf es j .band
-band-first [] a b j l h none = absurd (omega arith)
-band-first (e ∷ es) a b zero l h none = band-here e es a b h
-band-first (e ∷ es) a b (suc j) l h none =
-    band-elsewhere e es a b (none 0 (omega arith)) ∙ band-first es a b j (omega arith) h (λ i k. none (suc i) (omega arith))

@@ -11,7 +11,7 @@ use borrow.Author.Tests.{ltb-true, ltb-false, leb-false, eqb-true, eqb-false, no
 use Rattle.sections.specs.declared.Entry.{Entry}
 use Rattle.sections.specs.Entries.{entryIn, after, outside, noBand, misplaced, entryFault, entriesFault}
 use Rattle.sections.specs.Claims.{Sound, Before, EntriesRule}
-use Rattle.base.proofs.Cases.{case, lt-ge, eq-ne}
+use Rattle.base.proofs.Cases.{case, eq-ne}
 use Rattle.base.proofs.Tests.{or-false, and-true, or-true}
 use Rattle.base.specs.Faults.{firstFault, faultBelow}
 use Rattle.base.proofs.Faults.{first-none, when-none, below-none, below-zero, below-next}
@@ -82,15 +82,6 @@ ascend m n part h i (suc j) l k =
     (λ e. rw e (next-after m n part h j k))
     (λ ne. before-trans (entryIn part i) (entryIn part j) (entryIn part (suc j))
     (ascend m n part h i j (omega arith) (omega arith)) (next-after m n part h j k))
-
--- so no two of them have the same place
-pub one-place : (m n : ℕ) (part : List ℕ) → entriesFault m n part ≡ 0 → (i j : ℕ) → i < m → j < m
-    → entryIn part i .joint ≡ entryIn part j .joint → entryIn part i .other ≡ entryIn part j .other → i ≡ j
-one-place m n part h i j li lj same-joint same-other =
-    case (lt-ge i j)
-    (λ l. case (ascend m n part h i j l lj) (λ b. absurd (omega arith)) (λ b. absurd (omega arith)))
-    (λ g. case (eq-ne i j) (λ e. e)
-    (λ ne. case (ascend m n part h j i (omega arith) li) (λ b. absurd (omega arith)) (λ b. absurd (omega arith))))
 
 -- AND THE OTHER WAY: entries that are sound and ascend have no fault
 sound-inside : (n : ℕ) (e : Entry) → Sound n e → (outside n e ≡ false) × (noBand e ≡ false)

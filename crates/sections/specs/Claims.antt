@@ -7,7 +7,7 @@ use Prim.Native.Nat.{ℕ, _*_, _-_, _≤_, _<_}
 use lib.ListN.{length, getD}
 use Rattle.sections.specs.declared.Entry.{Entry}
 use Rattle.sections.specs.Labels.{labelWidth, labelIn, labelOk, labelsFault}
-use Rattle.sections.specs.Entries.{entryIn, entriesFault}
+use Rattle.sections.specs.Entries.{entryIn, entryOf, entriesFault}
 
 -- A label: one or more bytes from 33 to 126, then zero bytes to the end.
 pub record Label (l : List ℕ) : Type 0 where
@@ -40,6 +40,13 @@ pub record Sound (n : ℕ) (e : Entry) : Type 0 where
 -- d comes before e: by joint, then by candidate
 abbrev pub Before : Entry → Entry → Type 0
 Before d e = (d .joint < e .joint) ⊎ ((d .joint ≡ e .joint) × (d .other < e .other))
+
+-- P holds of each entry of a list; each comes before those behind it
+abbrev pub Each : (Entry → Type 0) → List Entry → Type 0
+Each P es = (j : ℕ) → j < length es → P (entryOf es j)
+
+abbrev pub Ascending : List Entry → Type 0
+Ascending es = (i j : ℕ) → i < j → j < length es → Before (entryOf es i) (entryOf es j)
 
 -- The entries: each is sound, and they ascend strictly.
 pub record GoodEntries (m n : ℕ) (part : List ℕ) : Type 0 where

@@ -13,6 +13,7 @@ use rules::Work;
 use samples::Sheet;
 use samples::Style;
 use samples::drawn_sheet;
+use samples::is_one_sided;
 use tally::add;
 use tally::compare;
 ghost use Prim.Native.Nat.{_≤_};
@@ -51,6 +52,7 @@ fn sheet_of(round: u32, seed: u32) -> Sheet {
     let k = (round / 48 % 4) as usize;
     let style = Style {
         skip: round / 16 % 3,
+        lone: 2 - round / 192 % 2 * 2,
         width: WIDTHS[k],
         turn: TURNS[k],
     };
@@ -83,7 +85,8 @@ fn try_sheet(round: u32, rows: &[[u8; 8]; 764], sums: [u32; 40]) -> [u32; 40] {
     let bands = sheet.bands;
     let end = rules::ended(rules::fresh(sheet.n, bands, true));
     let found = find_stable(bands, rows, paired(rules::partners(end)));
-    let one = count_sheet(sums, found, end);
+    let lone = add(sums, places::ONE_SIDED, reference::one(is_one_sided(sheet)));
+    let one = count_sheet(lone, found, end);
     let two = compare(one, places::JOINTS, round, found.alike == found.stable);
     trying::try_calls(
         Case {
@@ -111,7 +114,7 @@ fn report(counts: &[u32; 40]) {
     tally::print(
         b"comparisons, differences: # #\n\
 matchings of 8 joints: #\n\
-sheets: #\n\
+sheets, with an entry that is not returned: # #\n\
 pairing, none phase 1, none phase 2: # # #\n\
 super-stable matchings, sheets with more than one: # #\n\
 proposals, cuts: # #\n\

@@ -6,25 +6,28 @@ pub const MATCHINGS: usize = 2;
 
 pub const SHEETS: usize = 3;
 
+// Sheets with an entry that is not returned.
+pub const ONE_SIDED: usize = 4;
+
 // With no choices.
-pub const PAIRED: usize = 4;
+pub const PAIRED: usize = 5;
 
-pub const NONE_ONE: usize = 5;
+pub const NONE_ONE: usize = 6;
 
-pub const NONE_TWO: usize = 6;
+pub const NONE_TWO: usize = 7;
 
-pub const STABLE: usize = 7;
+pub const STABLE: usize = 8;
 
-pub const SEVERAL: usize = 8;
+pub const SEVERAL: usize = 9;
 
-pub const PROPOSALS: usize = 9;
+pub const PROPOSALS: usize = 10;
 
-pub const CUTS: usize = 10;
+pub const CUTS: usize = 11;
 
 // What the calls answer: within the rules, refused with 9, 11, 12, 13.
-pub const SETTLE: usize = 11;
+pub const SETTLE: usize = 12;
 
-pub const SHORTEN: usize = 16;
+pub const SHORTEN: usize = 17;
 
 // The library beside the rules: its answer, its buffer, its counts.
 pub const ANSWER: u32 = 1;

@@ -149,18 +149,22 @@ fn try_drawn(case: Case, sums: [u32; 40], x: u32) -> [u32; 40] {
     try_walk(case, sums, walk)
 }
 
-// How long a call's buffer must be, n or 2 + 3 × m, before its working.
-fn room_of(w: Work) -> usize {
-    if w.whole {
-        return w.n;
+// How long a call's buffer must be: n, or as long as the rankings of the sheet, which follow the count of joints and the labels.
+fn room_of(sheet: Sheet, whole: bool) -> usize {
+    let front = 1 + 16 * (sheet.n % 9);
+    if whole {
+        return sheet.n;
     }
-    2 + 3 * (u64::count_ones(w.listed) % 65) as usize
+    if sheet.size < front {
+        return 0;
+    }
+    sheet.size - front
 }
 
 // Buffers as long as they must be, and a byte too short, which is refused before a choice is. Elsewhere they are longer.
 fn try_rooms(case: Case, sums: [u32; 40], w: Work) -> [u32; 40] {
-    let room = room_of(w);
     let whole = w.whole;
+    let room = room_of(case.sheet, whole);
     let said = call(case.sheet, none(), whole, room);
     let one = compare_answer(case, sums, whole, said, rules::answered(rules::ended(w)));
     if room == 0 {

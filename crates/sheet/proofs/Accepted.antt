@@ -1,6 +1,5 @@
--- What a sheet without a fault is: long enough, no longer, and its entries without a fault and returned.
+-- What a sheet without a fault is: long enough, no longer, and its entries without a fault.
 use mathlib.Core.Path.{_≡_, sym, _∙_}
-use mathlib.Core.Bool.{false}
 use mathlib.Core.List.{List}
 use mathlib.Core.Logic.{_≢_}
 use Prim.Native.Nat.{ℕ, _+_, _*_, _-_, _≤_, _<_}
@@ -13,7 +12,7 @@ use Rattle.sections.specs.Labels.{labelsFault}
 use Rattle.sections.specs.Claims.{GoodLabels}
 use Rattle.sections.proofs.LabelRule.{labels-rule}
 use Rattle.sheet.specs.Format.{joints, labelsPart, countStart, rankCount, rankStart, rankingsPart, sheetEnd}
-use Rattle.sheet.specs.Refusals.{someUnreturned, sheetFaults, sheetFault, extentsFault}
+use Rattle.sheet.specs.Refusals.{sheetFaults, sheetFault, extentsFault}
 use Rattle.sheet.proofs.FaultLists.{split-faults}
 
 -- a sheet whose sections lie where they should
@@ -56,14 +55,12 @@ pub record Accepted (s : List ℕ) : Type 0 where
   pub labels : GoodLabels (joints s) (labelsPart s)
   pub exact : length s ≡ sheetEnd s
   pub faultless : entriesFault (rankCount s) (joints s) (rankingsPart s) ≡ 0
-  pub returned : someUnreturned s ≡ false
 
 pub accepted : (s : List ℕ) → sheetFault s ≡ 0 → Accepted s
 unfolding sheetFault sheetFaults extentsFault
 accepted s h =
     let (lie, rest) = first-none (extentsFault s) _ (sym (split-faults 6 (sheetFaults s)) ∙ h) in
-    let (clean, more) = first-none (entriesFault (rankCount s) (joints s) (rankingsPart s)) _ rest in
-    let (h7, none) = first-none _ _ more in
+    let (clean, none) = first-none (entriesFault (rankCount s) (joints s) (rankingsPart s)) _ rest in
     let x = extents-known s lie in
     record {
       not-empty = x .not-empty;
@@ -71,7 +68,6 @@ accepted s h =
       labels = x .labels;
       exact = x .exact;
       faultless = clean;
-      returned = when-none _ _ h7;
     }
 
 -- two bytes count below 65536

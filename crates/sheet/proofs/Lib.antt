@@ -1,9 +1,5 @@
 -- Laws of the definitions, and what an accepted sheet promises.
 pub mod FaultLists
-pub mod PutOnePlace
-pub mod SquarePlaces
-pub mod SquareIsEntries
-pub mod EmptyAcross
 pub mod Accepted
 pub mod SheetLaws
 pub mod PromiseKept

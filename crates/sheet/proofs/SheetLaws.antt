@@ -1,6 +1,5 @@
 -- Laws of a whole sheet's reading, one for each way that the reader takes.
 use mathlib.Core.Path.{_≡_, refl, sym, _∙_}
-use mathlib.Core.Bool.{true, false}
 use mathlib.Core.List.{List}
 use Prim.Native.Nat.{ℕ, zero, suc, _-_, _≤_, _<_}
 use native.Mathlib.Omega.{arith}
@@ -13,7 +12,7 @@ use Rattle.sections.specs.Labels.{labelsFault}
 use Rattle.sections.specs.Entries.{entriesFault}
 use Rattle.sheet.specs.declared.Reading.the-variants.{Accepted, Refused}
 use Rattle.sheet.specs.Format.{joints, labelsStart, labelsPart, rankCount, rankStart, rankingsPart, sheetEnd}
-use Rattle.sheet.specs.Refusals.{someUnreturned, sheetFaults, sheetFault, extentsFault}
+use Rattle.sheet.specs.Refusals.{sheetFaults, sheetFault, extentsFault}
 use Rattle.sheet.specs.Square.{squareOf}
 use Rattle.sheet.specs.Readings.{partsOf, readingOr, readingOf, squareIn}
 use Rattle.sheet.proofs.FaultLists.{in-first-part, in-second-part}
@@ -79,14 +78,9 @@ module _ (s : List ℕ) where
     unfolding sheetFault extentsFault sheetFaults
     bad-entries k e h = in-second-part 6 (sheetFaults s) lie ∙ rw e (fault-stops k _ h)
 
-    module _ (clean : entriesFault (rankCount s) (joints s) (rankingsPart s) ≡ 0) where
-      pub not-returned : someUnreturned s ≡ true → sheetFault s ≡ 7
-      unfolding sheetFault extentsFault sheetFaults firstFault
-      not-returned h = in-second-part 6 (sheetFaults s) lie ∙ rw (clean, h)
-
-      pub faultless : someUnreturned s ≡ false → sheetFault s ≡ 0
-      unfolding sheetFault extentsFault sheetFaults firstFault
-      faultless h = in-second-part 6 (sheetFaults s) lie ∙ rw (clean, h)
+    pub faultless : entriesFault (rankCount s) (joints s) (rankingsPart s) ≡ 0 → sheetFault s ≡ 0
+    unfolding sheetFault extentsFault sheetFaults firstFault
+    faultless clean = in-second-part 6 (sheetFaults s) lie ∙ rw clean
 
 -- THE WHOLE ANSWER, and the square beside it
 module _ (s : List ℕ) (old : List (List ℕ)) where

@@ -1,16 +1,18 @@
 -- What reading promises of every sheet.
 use mathlib.Core.Path.{_≡_}
 use mathlib.Core.List.{List}
-use mathlib.Core.Logic.{_↔_}
+use mathlib.Core.Logic.{_⊎_, _↔_}
 use Prim.Native.Nat.{ℕ, _+_, _*_, _-_, _≤_, _<_}
 use lib.ListN.{length, getD}
 use Rattle.base.specs.Claims.{First}
 use Rattle.sections.specs.Entries.{entryWidth, bandIn}
+use Rattle.sections.specs.Claims.{Sound, Each, Ascending}
+use Rattle.square.specs.Mutual.{mutualEntries, mutualBand}
 use Rattle.sheet.specs.declared.Reading.the-variants.{Accepted, Refused}
 use Rattle.sheet.specs.Format.{joints, rankCount, entriesOf}
 use Rattle.sheet.specs.Refusals.{sheetFaults, sheetFault}
 use Rattle.sheet.specs.Square.{at, squareOf, SquarePromise}
-use Rattle.sheet.specs.Promise.{Promise}
+use Rattle.sheet.specs.Promise.{MutualListing, Promise}
 use Rattle.sheet.specs.Readings.{partsOf, readingOf}
 
 -- a sheet is refused with k exactly if k is the first of its faults, and accepted exactly if it has none
@@ -20,19 +22,28 @@ RefusedFirst = (s : List ℕ) (k : ℕ) → readingOf s ≡ Refused k ↔ First 
 abbrev pub AcceptedNone : Type 0
 AcceptedNone = (s : List ℕ) → readingOf s ≡ Accepted (partsOf s) ↔ ((i : ℕ) → getD (sheetFaults s) i 0 ≡ 0)
 
--- the numbers are 1 to 8
-abbrev pub SheetMost : Type 0
-SheetMost = (s : List ℕ) → sheetFault s ≤ 8
+-- the numbers are 1 to 6 and 8
+abbrev pub SheetNumbers : Type 0
+SheetNumbers = (s : List ℕ) → (sheetFault s ≤ 6) ⊎ (sheetFault s ≡ 8)
 
--- an accepted sheet's entries ascend, are in range and mutual; so says its square, which has their bands
+-- an accepted sheet's entries, returned or not, are in range and ascend
+abbrev pub AcceptedEntries : Type 0
+AcceptedEntries = (s : List ℕ) → sheetFault s ≡ 0 → Each (Sound (joints s)) (entriesOf s) × Ascending (entriesOf s)
+
+-- its mutual listings are mutual too; so says its square
 abbrev pub AcceptedPromise : Type 0
-AcceptedPromise = (s : List ℕ) → sheetFault s ≡ 0 → Promise (joints s) (entriesOf s)
+AcceptedPromise = (s : List ℕ) → sheetFault s ≡ 0 → Promise (joints s) (mutualEntries (entriesOf s))
 
 abbrev pub AcceptedSquare : Type 0
 AcceptedSquare = (s : List ℕ) → sheetFault s ≡ 0 → SquarePromise (joints s) (squareOf s)
 
+-- place (a, b) of the square is the band of b on a's entries if b's entries have a, else 0
+abbrev pub SquareIsMutual : Type 0
+SquareIsMutual = (s : List ℕ) → sheetFault s ≡ 0 → (a b : ℕ) → at (squareOf s) a b ≡ mutualBand (entriesOf s) a b
+
+-- and where every entry is returned, just the band of b on a's entries
 abbrev pub SquareIsEntries : Type 0
-SquareIsEntries = (s : List ℕ) → sheetFault s ≡ 0 → (a b : ℕ) → at (squareOf s) a b ≡ bandIn (entriesOf s) a b
+SquareIsEntries = (s : List ℕ) → sheetFault s ≡ 0 → MutualListing (entriesOf s) → (a b : ℕ) → at (squareOf s) a b ≡ bandIn (entriesOf s) a b
 
 -- the sizes that buffers are made for
 pub record Sizes (s : List ℕ) : Type 0 where

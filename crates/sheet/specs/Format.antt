@@ -33,7 +33,7 @@ rankingsPart s = drop (rankStart s) s
 abbrev pub sheetEnd : List ℕ → ℕ
 sheetEnd s = rankStart s + entryWidth * rankCount s
 
--- the label of joint i; all entries
+-- the label of joint i; all entries, whether or not they are returned
 abbrev pub labelOf : List ℕ → ℕ → List ℕ
 labelOf s = labelAt s labelsStart
 

@@ -1,21 +1,12 @@
--- Refusals 1 to 8, in the order of document 01. A fault is the number of a refusal, 0 for none.
-use mathlib.Core.Bool.{Bool}
+-- Refusals 1 to 6 and 8, in the order of document 01. A fault is the number of a refusal, 0 for none.
 use mathlib.Core.List.{List, [], _∷_}
 use Prim.Native.Nat.{ℕ}
 use lib.Dec.{eqb, ltb}
 use lib.ListN.{length, take}
-use Rattle.base.specs.Below.{anyBelow}
 use Rattle.base.specs.Faults.{when, firstFault}
 use Rattle.sections.specs.Labels.{labelsFault}
-use Rattle.sections.specs.Entries.{entryIn, entriesFrom, bandIn, entriesFault}
+use Rattle.sections.specs.Entries.{entriesFault}
 use Rattle.sheet.specs.Format.{joints, labelsPart, rankCount, rankStart, rankingsPart, sheetEnd}
-
--- entry j is a listing without its return
-unfoldable pub unreturned : ℕ → List ℕ → ℕ → Bool
-unreturned m part j = eqb (bandIn (entriesFrom m 0 part) (entryIn part j .other) (entryIn part j .joint)) 0
-
-abbrev pub someUnreturned : List ℕ → Bool
-someUnreturned s = anyBelow (rankCount s) (unreturned (rankCount s) (rankingsPart s))
 
 -- Extents first, then contents.
 unfoldable pub sheetFaults : List ℕ → List ℕ
@@ -32,10 +23,8 @@ sheetFaults s =
     ∷ when (ltb (length s) (sheetEnd s)) 1
     -- bytes after the last section
     ∷ when (ltb (sheetEnd s) (length s)) 8
-    -- 4, 5, 6, entry by entry
+    -- 4, 5, 6, entry by entry, whether or not it is returned
     ∷ entriesFault (rankCount s) (joints s) (rankingsPart s)
-    -- a listing without its return
-    ∷ when (someUnreturned s) 7
     ∷ []
 
 unfoldable pub sheetFault : List ℕ → ℕ

@@ -1,42 +1,10 @@
--- The square of bands: a row for each joint, a place for each candidate, 0 for unlisted.
-use mathlib.Core.Path.{_≡_}
-use mathlib.Core.List.{List, []}
-use Prim.Native.Nat.{ℕ, zero, suc, _≤_, _<_}
-use mathlib.Core.Bool.{Bool}
-use lib.Dec.{eqb}
-use lib.ListN.{length, getD, set, replicate}
-use Rattle.sections.specs.declared.Entry.{Entry}
-use Rattle.sections.specs.Entries.{entryIn}
-use Rattle.sheet.specs.Format.{rankCount, rankingsPart}
-
--- the band of b on a's list, 0 for unlisted
-abbrev pub at : List (List ℕ) → ℕ → ℕ → ℕ
-at t a b = getD (getD t a []) b 0
-
-abbrev pub put : List (List ℕ) → Entry → List (List ℕ)
-put t e = set t (e .joint) (set (getD t (e .joint) []) (e .other) (e .band))
-
-abbrev pub blank : List (List ℕ)
-blank = replicate 128 (replicate 128 0)
-
--- the first j entries of the rankings' part, each put in its place
-unfoldable pub squareUpTo : ℕ → List ℕ → List (List ℕ)
-squareUpTo zero part = blank
-squareUpTo (suc j) part = put (squareUpTo j part) (entryIn part j)
+-- The square of a sheet: its mutual listings, each in its place. The theory, the phases and the calls see nothing else of the rankings.
+use mathlib.Core.List.{List}
+use Prim.Native.Nat.{ℕ}
+use Rattle.square.specs.Mutual.{mutualEntries}
+use Rattle.sheet.specs.Format.{entriesOf}
+pub use Rattle.square.specs.Square.{at, SquarePromise}
+unfoldable pub use Rattle.square.specs.Square.{placed}
 
 abbrev pub squareOf : List ℕ → List (List ℕ)
-squareOf s = squareUpTo (rankCount s) (rankingsPart s)
-
--- is the place across from entry j, its return, empty in the square?
-unfoldable pub emptyAcross : List (List ℕ) → List ℕ → ℕ → Bool
-emptyAcross t part j = eqb (at t (entryIn part j .other) (entryIn part j .joint)) 0
-
--- What the crates above may use of an accepted sheet's square, with n joints.
-pub record SquarePromise (n : ℕ) (t : List (List ℕ)) : Type 0 where
-  pub few-joints : n ≤ 128
-  pub rows : length t ≡ 128
-  pub row : (a : ℕ) → a < 128 → length (getD t a []) ≡ 128
-  pub inside : (a b : ℕ) → 0 < at t a b → (a < n) × (b < n)
-  pub not-itself : (a : ℕ) → at t a a ≡ 0
-  pub mutual-listing : (a b : ℕ) → 0 < at t a b → 0 < at t b a
-  pub small-band : (a b : ℕ) → at t a b ≤ 127
+squareOf s = placed (mutualEntries (entriesOf s))

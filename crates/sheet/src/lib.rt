@@ -1,11 +1,7 @@
 // Reads whole sheets: bytes from outside, in the format of document 01.
-mod square;
-
 use base::wide;
 use sections::ENTRY_WIDTH;
 use sections::Section;
-use square::fill;
-use square::some_empty_across;
 ghost use mathlib.Core.Path.{_≡_};
 ghost use Prim.Native.Nat.{_+_, _*_, _<_};
 ghost use lib.ListN.{length, getD};
@@ -74,7 +70,7 @@ fn extents(sheet: &[u8]) -> Reading
     })
 }
 
-// Reads a whole sheet, and fills the square of bands if it is accepted: the way in for every crate above.
+// Reads a whole sheet, and fills the square with its mutual listings if it is accepted: the way in for every crate above.
 // Every input is accepted, or refused with the first number that applies; a refused one leaves the square as it was.
 pub fn lists(sheet: &[u8], bands: &mut [[u8; 128]; 128]) -> Reading
     ensures { λ r. ⌜ r ≡ readingOf (now (sheet .entry)) ⌝ }
@@ -91,12 +87,6 @@ pub fn lists(sheet: &[u8], bands: &mut [[u8; 128]; 128]) -> Reading
     let Section::Read(_) = listed else {
         return Reading::Refused(sections::number(listed));
     };
-    let mut filled = [[0u8; 128]; 128];
-    fill(part, m, &mut filled);
-    let unreturned = some_empty_across(part, &filled, m);
-    if unreturned {
-        return Reading::Refused(7);
-    }
-    *bands = filled;
+    square::fill(part, m, bands);
     found
 }

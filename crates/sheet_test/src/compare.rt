@@ -111,12 +111,14 @@ fn checks_hold(sheet: &[u8], bands: &[[u8; 128]; 128], claims: &[u8]) -> bool {
     true
 }
 
-// What is said of an accepted sheet: AGREES for the parts that are expected, a place of the square for each entry, and checks that hold.
+// What is said of an accepted sheet: AGREES for the parts that are expected, as many places of the square with a band, and checks that
+// hold.
 fn accepted_as(sheet: &[u8], parts: Parts, bands: &[[u8; 128]; 128], line: &[u8]) -> u8 {
-    if !accepted_so(part(line, b';', 1), parts) {
+    let expected = part(line, b';', 1);
+    if !accepted_so(expected, parts) {
         return 0;
     }
-    if PLACES - count_places(bands, 0) != parts.entries {
+    if !says(expected, 5, PLACES - count_places(bands, 0)) {
         return 0;
     }
     if checks_hold(sheet, bands, part(line, b';', 3)) {

@@ -2,8 +2,8 @@
 //
 //   name;expected;words of the sheet;checks
 //
-// with a refusal's number, or `ok` and the parts, for expected (see `build` for words, `compare` for checks). A case that differs is
-// written with the number that was read, 0 for an accepted sheet.
+// with a refusal's number, or `ok`, the parts and how many places have a band, for expected (see `build` for words, `compare` for
+// checks). A case that differs is written with the number that was read, 0 for an accepted sheet.
 mod build;
 mod compare;
 mod words;

@@ -1,23 +1,23 @@
--- `lists` goes by the extents, the entries, and the places across in the filled square.
-use mathlib.Core.Path.{_≡_, refl, sym, ap, _∙_}
+-- `lists` goes by the extents and the entries, and fills the square.
+use mathlib.Core.Path.{_≡_, sym, ap, _∙_}
 use mathlib.Core.List.{List}
-use Prim.Native.Nat.{ℕ, _*_, _-_, _<_, _≤_}
+use Prim.Native.Nat.{ℕ, _-_, _<_}
 use native.Mathlib.Omega.{arith}
 use lib.ListN.{length, take, drop}
 use denote.Ref.{now}
-use Rattle.sections.specs.Entries.{entryWidth, entryIn, entriesFault}
+use Rattle.sections.specs.Entries.{entriesFault}
 use Rattle.sections.specs.Readings.{entriesReading}
 use Rattle.sections.proofs.SectionLaws.{section-read, section-refused}
 use Rattle.sections.proofs.EntryFaults.{entry-fits}
+use Rattle.square.specs.Inside.{Inside}
 use Rattle.sheet.specs.declared.Parts.{Parts}
 use Rattle.sheet.specs.declared.Reading.the-variants.{Accepted}
 use Rattle.sheet.specs.Format.{joints, rankCount, rankingsPart}
-use Rattle.sheet.specs.Refusals.{someUnreturned, extentsFault}
+use Rattle.sheet.specs.Refusals.{extentsFault}
 use Rattle.sheet.specs.Square.{squareOf}
 use Rattle.sheet.proofs.Accepted.{Extents, extents-known, part-exact, count-small}
 use Rattle.sheet.proofs.ReadAs.{ReadWith, read-with, refused-with}
-use Rattle.sheet.proofs.EmptyAcross.{empty-unreturned}
-use Rattle.sheet.proofs.SheetLaws.{rest-is, bad-extents, bad-entries, not-returned, faultless, refused, all-read}
+use Rattle.sheet.proofs.SheetLaws.{rest-is, bad-extents, bad-entries, faultless, refused, all-read}
 use borrow.Author.Needs.{needs}
 use Rattle.sheet.proofs.lists.Statement.{statement}
 use Rattle.sheet.proofs.lists.Tie as tie
@@ -56,12 +56,8 @@ back c = c .before .before .before .before
 clean : (c : tie.After-enum-told2) → entriesFault (rankCount (sheet (back c))) (joints (sheet (back c))) (rankingsPart (sheet (back c))) ≡ 0
 clean c = section-read _ _ (entries-are (c .before .before)) (c .enum-told2 .given .1) .0
 
--- what `fill` and `some_empty_across` ask of the part
-abbrev Fits : List ℕ → ℕ → Type 0
-Fits part m =
-    ((m < 65536) × (entryWidth * m ≤ length part)) × ((j : ℕ) → j < m → (entryIn part j .joint < 128) × (entryIn part j .other < 128))
-
-fits : (c : tie.After-enum-told2) → Fits (rankingsPart (sheet (back c))) (rankCount (sheet (back c)))
+-- what `fill` asks of the part
+fits : (c : tie.After-enum-told2) → Inside (rankCount (sheet (back c))) (rankingsPart (sheet (back c)))
 fits c =
     let k : tie.After-known-told = back c in
     let e = part-exact (sheet k) (lies k) in
@@ -72,13 +68,6 @@ filled-is : (c : tie.After-fill) → c .fill .last .1 .1 .0 ≡ squareOf (sheet 
 filled-is c =
     let k : tie.After-known-told = back (c .before .before) in
     rw (← part-is k, ← read k .m-entries) (c .fill .ensures)
-
-seven-is : (c : tie.After-some-empty-across) → c .some-empty-across .result ≡ someUnreturned (sheet (back (c .before .before .before .before)))
-seven-is c =
-    let told : tie.After-enum-told2 = c .before .before .before .before in
-    let k : tie.After-known-told = back told in
-    rw (← empty-unreturned _ _ _ (clean told) (lies k .few-joints), ← filled-is (c .before .before), ← part-is k, ← read k .m-entries)
-    (c .some-empty-across .ensures)
 
 extents-requires : tie.Need-extents-requires
 extents-requires c κs = search needs
@@ -128,28 +117,14 @@ returns-2 c =
 fill-requires : tie.Need-fill-requires
 fill-requires c κs =
     let k : tie.After-known-told = c .before .before .before .before .before in
-    let f = fits (c .before) in
-    rw (part-is k, read k .m-entries) (f .0, (f .1, refl))
-
-some-empty-across-requires : tie.Need-some-empty-across-requires
-some-empty-across-requires c κs =
-    let told : tie.After-enum-told2 = c .before .before .before in
-    let k : tie.After-known-told = told .before .before .before .before in
-    rw (part-is k, read k .m-entries) (fits told)
+    rw (part-is k, read k .m-entries) (fits (c .before))
 
 returns-3 : tie.Need-returns-3
 returns-3 c =
-    let told : tie.After-enum-told2 = c .before .before .before .before .before in
+    let told : tie.After-enum-told2 = c .before .before in
     let k : tie.After-known-told = told .before .before .before .before in
-    refused (sheet k) _ 7 (not-returned (sheet k) (read k .faultless) (clean told) (sym (seven-is (c .before)) ∙ c .if1 .taken)) (λ z. omega arith)
-
-returns-4 : tie.Need-returns-4
-returns-4 c =
-    let told : tie.After-enum-told2 = c .before .before .before .before .before in
-    let k : tie.After-known-told = told .before .before .before .before in
-    let none = faultless (sheet k) (read k .faultless) (clean told) (sym (seven-is (c .before)) ∙ c .if1 .left) in
-    let all = all-read (sheet k) _ none in
-    (ap Accepted (read k .parts-are) ∙ all .0, filled-is (c .before .before .before) ∙ all .1)
+    let all = all-read (sheet k) _ (faultless (sheet k) (read k .faultless) (clean told)) in
+    (ap Accepted (read k .parts-are) ∙ all .0, filled-is c ∙ all .1)
 
 pub lists-spec : {M : Type 1} → statement M
 lists-spec =
@@ -168,6 +143,4 @@ lists-spec =
     number-requires
     returns-2
     fill-requires
-    some-empty-across-requires
-    returns-3
-    returns-4)
+    returns-3)

@@ -6,7 +6,7 @@ use Prim.Native.Nat.{ℕ, _<_}
 use lib.ListN.{length, getD, set, length-set}
 use lib.Seq.{getD-set-same, getD-set-other, set-out}
 use Rattle.sections.specs.declared.Entry.{Entry}
-use Rattle.sheet.specs.Square.{at, put}
+use Rattle.square.specs.Square.{at, put}
 use Rattle.base.proofs.Cases.{case, lt-ge, eq-ne}
 use Rattle.sections.proofs.Places.{Elsewhere}
 
