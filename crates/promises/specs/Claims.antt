@@ -72,7 +72,7 @@ pub record CountsAre (whole : Bool) (s cs : List ℕ) : Type 0 where
   pub proposals-are : countsOf whole s cs .proposals ≡ proposalsIn (stepsTo arrived .1)
   pub cuts-are : countsOf whole s cs .cuts ≡ cutsTo arrived
 
--- When a call refuses, number by number and both ways; there is no 7. The sheet's own refusal is f (0 for none), `choice` is the one that the counts name beside the working,
+-- When a call refuses, number by number and both ways. The sheet's own refusal is f (0 for none), `choice` is the one that the counts name beside the working,
 -- and `need` bytes are due in a buffer of `room`.
 pub record Refuses (f choice need room : ℕ) (Refused : ℕ → Type 0) : Type 0 where
   pub numbers : (k : ℕ) → Refused k → ((1 ≤ k) × (k ≤ 6)) ⊎ (((8 ≤ k) × (k ≤ 9)) ⊎ ((11 ≤ k) × (k ≤ 13)))

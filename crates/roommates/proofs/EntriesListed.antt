@@ -1,5 +1,6 @@
 -- An accepted sheet's square lists each of its listed pairs twice, and these are at most half its entries.
 use mathlib.Core.Path.{_≡_, refl, sym, _∙_, ap}
+use mathlib.Core.Bool.{Bool, true, false, cond, _&&_}
 use mathlib.Core.Logic.{inl, inr}
 use mathlib.Core.List.{List, [], _∷_}
 use Prim.Native.Nat.{ℕ, suc, _+_, _*_, _≤_, _<_}
@@ -9,6 +10,7 @@ use lib.ListN.{length}
 use borrow.Author.Tests.{lt-ltb, le-ltb}
 use Rattle.base.specs.Below.{sumBelow}
 use Rattle.base.proofs.Cases.{case}
+use Rattle.base.proofs.CountBelow.{count-sum}
 use Rattle.base.proofs.SumBelow.{sum-same, sum-bound, sum-one-more, sum-cut, halfSum}
 use Rattle.sections.specs.declared.Entry.{Entry}
 use Rattle.sections.specs.Entries.{bandIn, entryOf}
@@ -22,7 +24,7 @@ use Rattle.sheet.specs.Refusals.{sheetFault}
 use Rattle.sheet.specs.Square.{at, squareOf}
 use Rattle.sheet.proofs.PromiseKept.{accepted-promise, accepted-square, square-is-mutual}
 use Rattle.roommates.specs.Left.{entryCount}
-use Rattle.roommates.specs.Claims.{AllListed, PairsHalf}
+use Rattle.roommates.specs.Claims.{AllListed, PairsHalf, PairsCounted}
 use Rattle.roommates.proofs.EntryCounts.{mark, mark-none, mark-listed, marks, entries-marks, entries-even}
 
 -- the places of the entries, as 0 and 1
@@ -109,3 +111,17 @@ pairs-half s h =
     let fewer = only-fewer (returned (entriesOf s)) (entriesOf s) in
     let long = length-entries (rankCount s) 0 (rankingsPart s) in
     omega arith
+
+-- a place is listed where both have an entry for the other
+both-marks : (p : Bool) (k : ℕ) → mark (cond p k 0) ≡ cond (p && ltb 0 k) 1 0
+both-marks true k = refl
+both-marks false k = mark-none 0 refl
+
+pub pairs-counted : PairsCounted
+unfolding halfSum
+pairs-counted s h =
+    let es : List Entry = entriesOf s in
+    sym (pair-count s h)
+    ∙ sum-same (joints s) _ _ (λ a l.
+    sum-same a _ _ (λ b k. ap mark (square-is-mutual s h a b) ∙ both-marks (returned es a b) (bandIn es a b))
+    ∙ sym (count-sum a (λ b. returned es a b && returned es b a)))
