@@ -2,7 +2,7 @@
 use mathlib.Core.Path.{_≡_, refl, sym, _∙_}
 use mathlib.Core.Bool.{Bool, not}
 use mathlib.Core.List.{List}
-use mathlib.Core.Logic.{_≢_}
+use mathlib.Core.Logic.{_⊎_, _≢_}
 use Prim.Native.Nat.{ℕ, _+_, _*_, _≤_, _<_}
 use native.Mathlib.Omega.{arith}
 use lib.ListN.{length}
@@ -11,7 +11,6 @@ use Rattle.base.specs.Faults.{when}
 use Rattle.base.proofs.Cases.{case}
 use Rattle.base.proofs.Faults.{fault-passes, last-fault}
 use Rattle.sections.specs.Entries.{bandIn}
-use Rattle.square.specs.Mutual.{mutualBand}
 use Rattle.square.proofs.MutualSquare.{mutual-listed}
 use Rattle.sheet.specs.Format.{joints, rankCount, entriesOf}
 use Rattle.sheet.specs.Refusals.{sheetFault}
@@ -37,6 +36,7 @@ module _ (s : List ℕ) (n : ℕ) (t : Square) (f : sheetFault s ≡ 0) (same : 
       × (settleBytes s cs out ≡ leftBy (settleSays n t cs (length out)) out)
   settle-on cs out = (rw (fault-passes (sheetFault s) _ f, same, number), rw (fault-passes (sheetFault s) _ f, same, number))
 
+  -- where the buffer has room for the sheet's entries their number plays no part: 0 stands for it
   shorten-on : (cs out : List ℕ) → 2 + 3 * rankCount s ≤ length out → (shortenAnswer s cs out ≡ shortenedBy (shortenSays n 0 t cs (length out)))
       × (shortenBytes s cs out ≡ leftBy (shortenSays n 0 t cs (length out)) out)
   shorten-on cs out fits =
@@ -66,26 +66,27 @@ module _ (s : List ℕ) (f : sheetFault s ≡ 0) where
   fewer = let count = other .count-left in let all = all-listed s f in let half = pairs-half s f in omega arith
 
   -- an entry on the square is returned
-  both-listed : (a b : ℕ) → 0 < at t a b → (0 < bandIn (entriesOf s) a b) × (0 < bandIn (entriesOf s) b a)
-  both-listed a b l =
+  each-lists : (a b : ℕ) → 0 < at t a b → (0 < bandIn (entriesOf s) a b) × (0 < bandIn (entriesOf s) b a)
+  each-lists a b l =
       let place = square-is-mutual s f a b in
       let own = mutual-listed (entriesOf s) a b (omega arith) in
       (omega (arith, own .0), own .1)
 
-  offered-ten : (m : List ℕ) (a : ℕ) → a < n → partner m a ≢ 255 → mutualBand (entriesOf s) a (partner m a) ≡ 0 → checkOf s m ≡ C.Refused 10
-  offered-ten m a l paired none =
+  offered-ten : (m : List ℕ) (a : ℕ) → a < n → partner m a ≢ 255
+      → (bandIn (entriesOf s) a (partner m a) ≡ 0) ⊎ (bandIn (entriesOf s) (partner m a) a ≡ 0) → checkOf s m ≡ C.Refused 10
+  offered-ten m a l paired missing =
       check-keeps s m .check-ten .1 (
         f,
         λ h.
             case (h .1 .placed a l) paired
-            (λ p. let listed = p .listed in let place = square-is-mutual s f a (partner m a) in omega arith),
+            (λ p. let both = each-lists a (partner m a) (p .listed) in case missing (λ z. omega arith) (λ z. omega arith)),
       )
 
   blocked-both : (m : List ℕ) (k : ℕ) → checkOf s m ≡ C.Blocked k
       → (a : ℕ) × (b : ℕ) × (k ≡ pairNumber a b) × (0 < bandIn (entriesOf s) a b) × (0 < bandIn (entriesOf s) b a)
   blocked-both m k h =
       let low = check-keeps s m .check-blocked k .0 h .2 in
-      let both = both-listed (low .lower) (low .higher) (low .blocking .lists) in
+      let both = each-lists (low .lower) (low .higher) (low .blocking .lists) in
       (low .lower, low .higher, low .numbered, both .0, both .1)
 
 pub unlisted : Unlisted

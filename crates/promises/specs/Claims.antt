@@ -9,7 +9,7 @@ use lib.ListN.{length, take, drop}
 use Rattle.base.specs.Claims.{First}
 use Rattle.sections.specs.Entries.{bandIn}
 use Rattle.sections.specs.Claims.{Each}
-use Rattle.square.specs.Mutual.{mutualBand, listedPairs}
+use Rattle.square.specs.Mutual.{listedPairs}
 use Rattle.sheet.specs.Format.{joints, rankCount, countStart, entriesOf}
 use Rattle.sheet.specs.Refusals.{sheetFault}
 use Rattle.sheet.specs.Square.{at, squareOf}
@@ -146,15 +146,16 @@ pub record CheckKeeps (s m : List ℕ) : Type 0 where
 
 -- ONE-SIDED ENTRIES, whose candidate does not list their joint, count as unlisted everywhere.
 pub record OneSided (s : List ℕ) : Type 0 where
-  -- the sheet without them gets the same answers; for shorten where the buffer is long enough for s, since its size still goes by m
+  -- The sheet without them gets the same answers; for shorten where the buffer is long enough for s, since its size still goes by m.
   pub settle-alike : (cs out : List ℕ) → (settleAnswer s cs out ≡ settleAnswer (without s) cs out) × (settleBytes s cs out ≡ settleBytes (without s) cs out)
   pub shorten-alike : (cs out : List ℕ) → 2 + 3 * rankCount s ≤ length out
       → (shortenAnswer s cs out ≡ shortenAnswer (without s) cs out) × (shortenBytes s cs out ≡ shortenBytes (without s) cs out)
   pub counts-alike : (whole : Bool) (cs : List ℕ) → countsOf whole s cs ≡ countsOf whole (without s) cs
   pub check-alike : (m : List ℕ) → checkOf s m ≡ checkOf (without s) m
-  -- an offered pairing that pairs two joints which do not list each other is refused by 10
-  pub offered-ten : (m : List ℕ) (a : ℕ) → a < joints s → partner m a ≢ 255 → mutualBand (entriesOf s) a (partner m a) ≡ 0 → checkOf s m ≡ C.Refused 10
-  -- and only two joints that list each other block
+  -- An offered pairing in which one of two partners has no entry for the other is refused by 10.
+  pub offered-ten : (m : List ℕ) (a : ℕ) → a < joints s → partner m a ≢ 255
+      → (bandIn (entriesOf s) a (partner m a) ≡ 0) ⊎ (bandIn (entriesOf s) (partner m a) a ≡ 0) → checkOf s m ≡ C.Refused 10
+  -- Only two joints that list each other block.
   pub blocked-both : (m : List ℕ) (k : ℕ) → checkOf s m ≡ C.Blocked k
       → (a : ℕ) × (b : ℕ) × (k ≡ pairNumber a b) × (0 < bandIn (entriesOf s) a b) × (0 < bandIn (entriesOf s) b a)
 

@@ -1,6 +1,6 @@
 -- The sheet with shorten's bytes as its rankings has the lists left as its square.
 use mathlib.Core.Path.{_≡_, refl, sym, ap, _∙_}
-use mathlib.Core.Bool.{Bool, true, false, cond}
+use mathlib.Core.Bool.{and-true}
 use mathlib.Core.List.{List, [], _++_}
 use mathlib.Core.Logic.{inl}
 use Prim.Native.Nat.{ℕ, _<_}
@@ -9,13 +9,12 @@ use lib.Dec.{ltb}
 use lib.ListN.{take}
 use lib.Seq.{ext-getD}
 use borrow.Author.Tests.{lt-ltb, ltb-true}
-use Rattle.base.proofs.Tests.{unlisted}
 use Rattle.sections.specs.declared.Entry.{Entry}
 use Rattle.sections.specs.Entries.{entryOf, bandIn}
 use Rattle.square.specs.Mutual.{returned, mutualEntries}
 use Rattle.square.proofs.Only.{only-passes, only-agree}
 use Rattle.square.proofs.Bands.{own-listed}
-use Rattle.square.proofs.MutualSquare.{mutual-listed}
+use Rattle.square.proofs.MutualSquare.{both-listed, mutual-listed}
 use Rattle.sheet.specs.Format.{joints, countStart, entriesOf}
 use Rattle.sheet.specs.Refusals.{sheetFault}
 use Rattle.sheet.specs.Square.{at, squareOf, SquarePromise}
@@ -77,11 +76,8 @@ left-mutual s h =
     only-agree _ (returned es) es λ j l.
     let e : Entry = entryOf es j in
     let own = own-listed (joints s) es (accepted-entries s h .0) j l in
-    rw (square-is-mutual s h (e .joint) (e .other)) (kept-own (returned es (e .joint) (e .other)) (bandIn es (e .joint) (e .other)) own)
-  where
-    kept-own : (b : Bool) (k : ℕ) → 0 < k → ltb 0 (cond b k 0) ≡ b
-    kept-own true k l = lt-ltb 0 k l
-    kept-own false k l = unlisted 0 refl
+    rw (square-is-mutual s h (e .joint) (e .other), both-listed es (e .joint) (e .other), lt-ltb 0 (bandIn es (e .joint) (e .other)) own)
+    (and-true (returned es (e .joint) (e .other)))
 
 pub without-same : WithoutSame
 without-same s h =

@@ -1,6 +1,6 @@
 -- An accepted sheet's square lists each of its listed pairs twice, and these are at most half its entries.
 use mathlib.Core.Path.{_≡_, refl, sym, _∙_, ap}
-use mathlib.Core.Bool.{Bool, true, false, cond, _&&_}
+use mathlib.Core.Bool.{Bool, cond, _&&_}
 use mathlib.Core.Logic.{inl, inr}
 use mathlib.Core.List.{List, [], _∷_}
 use Prim.Native.Nat.{ℕ, suc, _+_, _*_, _≤_, _<_}
@@ -19,6 +19,7 @@ use Rattle.sections.proofs.EntryList.{length-entries}
 use Rattle.sections.proofs.BandIn.{band-here, band-elsewhere, band-nowhere}
 use Rattle.square.specs.Mutual.{only, returned, mutualEntries}
 use Rattle.square.proofs.Only.{band-nil, only-each, only-ascends, only-fewer, only-same, only-none, only-band}
+use Rattle.square.proofs.MutualSquare.{both-listed}
 use Rattle.sheet.specs.Format.{joints, rankCount, rankingsPart, entriesOf}
 use Rattle.sheet.specs.Refusals.{sheetFault}
 use Rattle.sheet.specs.Square.{at, squareOf}
@@ -112,16 +113,11 @@ pairs-half s h =
     let long = length-entries (rankCount s) 0 (rankingsPart s) in
     omega arith
 
--- a place is listed where both have an entry for the other
-both-marks : (p : Bool) (k : ℕ) → mark (cond p k 0) ≡ cond (p && ltb 0 k) 1 0
-both-marks true k = refl
-both-marks false k = mark-none 0 refl
-
 pub pairs-counted : PairsCounted
 unfolding halfSum
 pairs-counted s h =
     let es : List Entry = entriesOf s in
     sym (pair-count s h)
     ∙ sum-same (joints s) _ _ (λ a l.
-    sum-same a _ _ (λ b k. ap mark (square-is-mutual s h a b) ∙ both-marks (returned es a b) (bandIn es a b))
-    ∙ sym (count-sum a (λ b. returned es a b && returned es b a)))
+    sum-same a _ _ (λ b k. ap mark (square-is-mutual s h a b) ∙ ap (λ (t : Bool). cond t 1 0) (both-listed es a b))
+    ∙ sym (count-sum a (λ b. ltb 0 (bandIn es b a) && ltb 0 (bandIn es a b))))

@@ -4,9 +4,10 @@ use mathlib.Core.Bool.{Bool, true, false, _&&_}
 use mathlib.Core.Logic.{_⊎_, _≢_, _↔_}
 use mathlib.Core.List.{List, [], _∷_, _++_}
 use Prim.Native.Nat.{ℕ, _*_, _≤_, _<_}
-use lib.Dec.{eqb}
+use lib.Dec.{eqb, ltb}
 use Rattle.base.specs.Below.{countBelow, sumBelow}
-use Rattle.square.specs.Mutual.{returned, listedPairs}
+use Rattle.sections.specs.Entries.{bandIn}
+use Rattle.square.specs.Mutual.{listedPairs}
 use Rattle.sheet.specs.Format.{joints, rankCount, entriesOf}
 use Rattle.sheet.specs.Refusals.{sheetFault}
 use Rattle.sheet.specs.Square.{SquarePromise, squareOf}
@@ -90,10 +91,11 @@ AllListed = (s : List ℕ) → sheetFault s ≡ 0 → entryCount (joints s) (squ
 abbrev pub PairsHalf : Type 0
 PairsHalf = (s : List ℕ) → sheetFault s ≡ 0 → 2 * listedPairs (entriesOf s) ≤ rankCount s
 
--- They are the pairs of joints, b below a, each of which has an entry for the other.
+-- They are the pairs of joints, b below a, of which each has an entry for the other.
 abbrev pub PairsCounted : Type 0
 PairsCounted = (s : List ℕ) → sheetFault s ≡ 0
-    → listedPairs (entriesOf s) ≡ sumBelow (joints s) (λ a. countBelow a (λ b. returned (entriesOf s) a b && returned (entriesOf s) b a))
+    → listedPairs (entriesOf s)
+    ≡ sumBelow (joints s) (λ a. countBelow a (λ b. ltb 0 (bandIn (entriesOf s) b a) && ltb 0 (bandIn (entriesOf s) a b)))
 
 -- THE REFUSALS OF CHOICES. From the working w the choices cs were made, each allowed where it was met, and left the working v.
 pub data Made (whole : Bool) (n : ℕ) : Work → List ℕ → Work → Type 0 where

@@ -52,7 +52,7 @@ fn sheet_of(round: u32, seed: u32) -> Sheet {
     let k = (round / 48 % 4) as usize;
     let style = Style {
         skip: round / 16 % 3,
-        lone: 2 - round / 192 % 2 * 2,
+        lone: if round / 192 % 2 == 0 { 2 } else { 0 },
         width: WIDTHS[k],
         turn: TURNS[k],
     };

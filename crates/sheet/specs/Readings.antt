@@ -21,6 +21,6 @@ readingOr s (suc k) = Refused (suc k)
 abbrev pub readingOf : List ℕ → Reading
 readingOf s = readingOr s (sheetFault s)
 
--- the square after reading: the bands of an accepted sheet; a refused one leaves it as it was
+-- the square after reading: that of an accepted sheet; a refused one leaves it as it was
 unfoldable pub squareIn : List ℕ → List (List ℕ) → List (List ℕ)
 squareIn s old = cond (eqb (sheetFault s) 0) (squareOf s) old

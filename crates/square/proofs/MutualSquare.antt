@@ -1,11 +1,13 @@
 -- The square of mutual listings: what each place holds, and what it promises.
 use mathlib.Core.Path.{_≡_, refl, _∙_}
-use mathlib.Core.Bool.{false, cond}
+use mathlib.Core.Bool.{Bool, true, false, cond, _&&_}
 use mathlib.Core.List.{List}
 use Prim.Native.Nat.{ℕ, _≤_, _<_}
 use native.Mathlib.Omega.{arith}
+use lib.Dec.{ltb}
 use borrow.Author.Tests.{lt-ltb, ltb-true}
 use Rattle.base.proofs.Cases.{case, both-ways}
+use Rattle.base.proofs.Tests.{unlisted}
 use Rattle.sections.specs.declared.Entry.{Entry}
 use Rattle.sections.specs.Entries.{bandIn}
 use Rattle.sections.specs.Claims.{Sound, Each}
@@ -23,10 +25,18 @@ pub mutual-places : MutualPlaces
 mutual-places n es few each a b =
     placed-bands (mutualEntries es) (only-each (returned es) Fits es (sound-fits n es few each)) a b ∙ only-band (returned es) a b es
 
+-- a place is listed exactly if each has an entry for the other
+pub both-listed : (es : List Entry) (a b : ℕ) → ltb 0 (mutualBand es a b) ≡ (ltb 0 (bandIn es b a) && ltb 0 (bandIn es a b))
+both-listed es a b = by-test (ltb 0 (bandIn es b a)) (bandIn es a b)
+  where
+    by-test : (p : Bool) (k : ℕ) → ltb 0 (cond p k 0) ≡ (p && ltb 0 k)
+    by-test true k = refl
+    by-test false k = unlisted 0 refl
+
 -- a mutual band is that of the entry, which is returned; or it is 0
 pub mutual-listed : (es : List Entry) (a b : ℕ) → 0 < mutualBand es a b → (mutualBand es a b ≡ bandIn es a b) × (0 < bandIn es b a)
 mutual-listed es a b h =
-    case (both-ways (returned es a b))
+    case (both-ways (ltb 0 (bandIn es b a)))
     (λ e. (rw e refl, ltb-true 0 (bandIn es b a) e))
     (λ e. let z : 0 < cond false (bandIn es a b) 0 = rw e at h in absurd (omega arith))
 
@@ -37,7 +47,7 @@ mutual-both es a b h =
     rw (lt-ltb 0 (bandIn es a b) own) (m .1)
 
 pub mutual-most : (es : List Entry) (a b : ℕ) → mutualBand es a b ≤ bandIn es a b
-mutual-most es a b = case (both-ways (returned es a b)) (λ e. rw e (omega arith)) (λ e. rw e (omega arith))
+mutual-most es a b = case (both-ways (ltb 0 (bandIn es b a))) (λ e. rw e (omega arith)) (λ e. rw e (omega arith))
 
 pub mutual-promise : MutualPromise
 mutual-promise n es few each =

@@ -25,6 +25,6 @@ mutualEntries es = only (returned es) es
 abbrev pub listedPairs : List Entry → ℕ
 listedPairs es = length (only (λ a b. ltb b a) (mutualEntries es))
 
--- the band of b on a's entries if b's entries have a, else 0
+-- What a place of the square should hold, said of the entries alone: the band of b on a's entries if b's entries have a, else 0.
 abbrev pub mutualBand : List Entry → ℕ → ℕ → ℕ
-mutualBand es a b = cond (returned es a b) (bandIn es a b) 0
+mutualBand es a b = cond (ltb 0 (bandIn es b a)) (bandIn es a b) 0
