@@ -10,7 +10,7 @@
 #include <string.h>
 #include <time.h>
 
-enum { N = 128, SIDE = N / 2, SHEETS = 16, ROUNDS = 31, OUT = N + 32 };
+enum { N = 128, SIDE = N / 2, SHEETS = 16, RECORDS = 64, ROUNDS = 31, OUT = N + 32 };
 static const double ROUND_SECONDS = 0.01;
 
 /* band[a][b] is the band of b on a's list, 0 where a does not list b */
@@ -163,15 +163,34 @@ static void write_sheet(struct sheet *s, bands band)
 
 typedef uint32_t settle_call(const uint8_t *, size_t, const uint8_t *, size_t, uint8_t *, size_t);
 
-static bool agree(const struct sheet *s)
+static bool agree(const struct sheet *s, const uint8_t *choices, size_t choices_size)
 {
     uint8_t plain_out[OUT], library_out[OUT];
     memset(plain_out, 0xa5, OUT);
     memset(library_out, 0xa5, OUT);
-    return plain_settle(s->bytes, s->size, NULL, 0, plain_out, OUT)
-            == mirror_settle(s->bytes, s->size, NULL, 0, library_out, OUT)
+    return plain_settle(s->bytes, s->size, choices, choices_size, plain_out, OUT)
+            == mirror_settle(s->bytes, s->size, choices, choices_size, library_out, OUT)
         && memcmp(plain_out, library_out, OUT) == 0
-        && plain_counts(s->bytes, s->size, NULL, 0) == mirror_counts(s->bytes, s->size, NULL, 0, true);
+        && plain_counts(s->bytes, s->size, choices, choices_size)
+            == mirror_counts(s->bytes, s->size, choices, choices_size, true);
+}
+
+/* A list that grows by random records: a step of a joint, and of four one that sets a mark or returns to one. A record
+ * that is refused is left out. */
+static bool agree_on_records(const struct sheet *s)
+{
+    uint8_t records[2 * RECORDS];
+    size_t size = 0;
+    bool agreed = true;
+    for (int i = 0; i < RECORDS; i++) {
+        int kind = below(4) == 0 ? 1 + below(2) : 0;
+        records[size] = (uint8_t)kind;
+        records[size + 1] = (uint8_t)below(kind == 0 ? N : 2);
+        agreed = agree(s, records, size + 2) && agreed;
+        if (MIRROR_REFUSAL(plain_counts(s->bytes, s->size, records, size + 2)) == MIRROR_ACCEPTED)
+            size += 2;
+    }
+    return agreed;
 }
 
 /* ---- times */
@@ -230,7 +249,7 @@ int main(void)
             memset(band, 0, sizeof band);
             cases[c].fill(band);
             write_sheet(&sheets[s], band);
-            if (!agree(&sheets[s])) {
+            if (!agree(&sheets[s], NULL, 0)) {
                 printf("%s, sheet %d: the answers differ\n", cases[c].name, s);
                 agreed = false;
             }
@@ -239,6 +258,10 @@ int main(void)
                 cuts = made;
             if (MIRROR_VERDICT(plain_settle(sheets[s].bytes, sheets[s].size, NULL, 0, out, OUT)) == MIRROR_DONE)
                 paired++;
+        }
+        if (!agree_on_records(&sheets[0])) {
+            printf("%s, sheet 0: the answers to records differ\n", cases[c].name);
+            agreed = false;
         }
         double plain[ROUNDS], library[ROUNDS];
         int plain_times = enough(plain_settle, sheets, n), library_times = enough(mirror_settle, sheets, n);

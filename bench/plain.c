@@ -1,11 +1,11 @@
-/* The rules of document 01 written straight down in C: reading a sheet, phase one, phase two. It shares nothing with the
- * library and is what the library's times are held against. */
+/* The rules of document 01 written straight down in C: reading a sheet, phase one, phase two; and records with marks, as
+ * document 02 has them. It shares nothing with the library and is what the library's times are held against. */
 #include "plain.h"
 
 #include <stdbool.h>
 #include <string.h>
 
-enum { JOINTS = 128, LABEL = 16, ENTRY = 3, ALONE = 255 };
+enum { JOINTS = 128, LABEL = 16, ENTRY = 3, ALONE = 255, MARKS = 8 };
 enum { NONE_ONE = 1, NONE_TWO = 2, PAIRED = 3 };
 
 /* A working. A joint's proposals go to a whole band of its list at once, so the band of its last step tells which of
@@ -15,12 +15,10 @@ struct working {
     uint8_t band[JOINTS][JOINTS]; /* each joint's list, 0 for unlisted or struck */
     uint8_t asked[JOINTS];        /* the band that a joint last proposed to, 0 before its first step */
     bool received[JOINTS];        /* has it ever received a proposal? */
+    bool in_two;                  /* is it in phase two? */
+    bool set_aside[JOINTS];       /* was its list empty when phase one ended? */
+    int verdict;                  /* 0 until the working has ended */
     uint32_t proposals, cuts;
-};
-
-struct choices {
-    const uint8_t *joints;
-    size_t size, used;
 };
 
 /* ---- the sheet */
@@ -160,7 +158,7 @@ static bool waits(const struct working *w, int p)
     return !empty;
 }
 
-static int lowest_waiting(const struct working *w)
+static inline int lowest_waiting(const struct working *w)
 {
     int p = 0;
     while (p < w->n && !waits(w, p))
@@ -191,7 +189,7 @@ static void propose(struct working *w, int p, int q)
 
 /* p proposes to all of its best band. A proposal at q strikes pairs of q alone, so the rest of the band is still there
  * when its turn comes. */
-static void step(struct working *w, int p)
+static inline void step(struct working *w, int p)
 {
     int best = w->band[p][first_on(w, p)];
     w->asked[p] = best;
@@ -200,20 +198,10 @@ static void step(struct working *w, int p)
             propose(w, p, q);
 }
 
-static int phase_one(struct working *w, struct choices *c)
+static void run_one(struct working *w)
 {
-    for (;;) {
-        int p = lowest_waiting(w);
-        if (p == w->n)
-            return 0;
-        if (c->used < c->size) {
-            p = c->joints[c->used];
-            if (p >= w->n || !waits(w, p))
-                return 11;
-            c->used++;
-        }
+    for (int p = lowest_waiting(w); p < w->n; p = lowest_waiting(w))
         step(w, p);
-    }
 }
 
 static bool received_and_emptied(const struct working *w)
@@ -235,85 +223,126 @@ static int lowest_longer(const struct working *w)
 }
 
 /* Strikes v's worst band from v's list and runs phase one afresh. Does it leave no list empty but those set aside? */
-static bool trial(struct working *t, const struct working *w, const bool *set_aside, int v)
+static bool trial(struct working *t, const struct working *w, int v)
 {
-    struct choices none = {NULL, 0, 0};
     *t = *w;
     memset(t->asked, 0, sizeof t->asked);
     strike_band(t, v, worst_band(t, v));
-    phase_one(t, &none);
+    run_one(t);
     for (int a = 0; a < t->n; a++)
-        if (!set_aside[a] && list_length(t, a) == 0)
+        if (!w->set_aside[a] && list_length(t, a) == 0)
             return false;
     return true;
 }
 
-static bool cut(struct working *w, const bool *set_aside, int x)
+static void cut(struct working *w, int x)
 {
     struct working t;
     w->cuts++;
-    if (!trial(&t, w, set_aside, first_on(w, x)) && !trial(&t, w, set_aside, x))
-        return false;
-    memcpy(w->band, t.band, sizeof w->band);
-    return true;
+    if (trial(&t, w, first_on(w, x)) || trial(&t, w, x))
+        memcpy(w->band, t.band, sizeof w->band);
+    else
+        w->verdict = NONE_TWO;
 }
 
-/* Returns 0 or a refusal. */
-static int phase_two(struct working *w, struct choices *c, int *verdict)
+/* ---- whole workings */
+
+static void end_one(struct working *w)
 {
-    bool set_aside[JOINTS];
+    if (received_and_emptied(w))
+        w->verdict = NONE_ONE;
+    w->in_two = true;
     for (int a = 0; a < w->n; a++)
-        set_aside[a] = list_length(w, a) == 0;
-    for (;;) {
-        int x = lowest_longer(w);
-        if (x == w->n) {
-            *verdict = PAIRED;
-            return 0;
-        }
-        if (c->used < c->size) {
-            x = c->joints[c->used];
-            if (x >= w->n || list_length(w, x) < 2)
-                return 12;
-            c->used++;
-        }
-        if (!cut(w, set_aside, x)) {
-            *verdict = NONE_TWO;
-            return 0;
-        }
+        w->set_aside[a] = list_length(w, a) == 0;
+}
+
+static void end_what_has_ended(struct working *w)
+{
+    if (!w->in_two && lowest_waiting(w) == w->n)
+        end_one(w);
+    if (w->verdict == 0 && w->in_two && lowest_longer(w) == w->n)
+        w->verdict = PAIRED;
+}
+
+/* Returns 0 or a refusal, as do the next two. */
+static int choose(struct working *w, int x)
+{
+    if (w->verdict != 0)
+        return 13;
+    if (w->in_two) {
+        if (x >= w->n || list_length(w, x) < 2)
+            return 12;
+        cut(w, x);
+    } else {
+        if (x >= w->n || !waits(w, x))
+            return 11;
+        step(w, x);
     }
+    end_what_has_ended(w);
+    return 0;
+}
+
+static int follow(struct working *w, const uint8_t *records, size_t size)
+{
+    struct working saved[MARKS];
+    bool set[MARKS] = {false};
+    if (size % 2 != 0)
+        return 14;
+    end_what_has_ended(w);
+    for (size_t i = 0; i < size; i += 2) {
+        int kind = records[i], x = records[i + 1], refusal = 0;
+        if (kind > 2)
+            return 14;
+        if (kind != 0 && (x >= MARKS || (kind == 2 && !set[x])))
+            return 15;
+        if (kind == 0)
+            refusal = choose(w, x);
+        if (refusal != 0)
+            return refusal;
+        if (kind == 1) {
+            saved[x] = *w;
+            set[x] = true;
+        }
+        if (kind == 2)
+            *w = saved[x];
+    }
+    return 0;
+}
+
+static int whole_working(struct working *w, const uint8_t *choices, size_t choices_size)
+{
+    int refusal = choices_size == 0 ? 0 : follow(w, choices, choices_size);
+    if (refusal != 0)
+        return refusal;
+    if (!w->in_two) {
+        run_one(w);
+        end_one(w);
+    }
+    while (w->verdict == 0) {
+        int x = lowest_longer(w);
+        if (x == w->n)
+            w->verdict = PAIRED;
+        else
+            cut(w, x);
+    }
+    return 0;
 }
 
 /* ---- the calls */
-
-static int whole_working(struct working *w, struct choices *c, int *verdict)
-{
-    int refusal = phase_one(w, c);
-    if (refusal != 0)
-        return refusal;
-    if (received_and_emptied(w))
-        *verdict = NONE_ONE;
-    else
-        refusal = phase_two(w, c, verdict);
-    if (refusal == 0 && c->used < c->size)
-        refusal = 13;
-    return refusal;
-}
 
 uint32_t plain_settle(const uint8_t *sheet, size_t sheet_size, const uint8_t *choices, size_t choices_size,
                       uint8_t *out, size_t out_size)
 {
     struct working w;
-    struct choices c = {choices, choices_size, 0};
-    int verdict = 0;
     int refusal = read_sheet(&w, sheet, sheet_size);
     if (refusal == 0 && out_size < (size_t)w.n)
         refusal = 9;
     if (refusal == 0)
-        refusal = whole_working(&w, &c, &verdict);
+        refusal = whole_working(&w, choices, choices_size);
     if (refusal != 0)
         return refusal;
-    if (verdict != PAIRED)
-        return 256u * verdict;
+    if (w.verdict != PAIRED)
+        return 256u * w.verdict;
 
     uint32_t paired = 0;
     for (int a = 0; a < w.n; a++) {
@@ -331,11 +360,9 @@ uint32_t plain_settle(const uint8_t *sheet, size_t sheet_size, const uint8_t *ch
 uint64_t plain_counts(const uint8_t *sheet, size_t sheet_size, const uint8_t *choices, size_t choices_size)
 {
     struct working w;
-    struct choices c = {choices, choices_size, 0};
-    int verdict = 0;
     int refusal = read_sheet(&w, sheet, sheet_size);
     if (refusal != 0)
         return refusal;
-    refusal = whole_working(&w, &c, &verdict);
+    refusal = whole_working(&w, choices, choices_size);
     return refusal + 65536u * (uint64_t)w.proposals + ((uint64_t)w.cuts << 32);
 }

@@ -23,14 +23,15 @@ use Rattle.blocking.specs.Answers.{verdictOf, offerOf}
 use Rattle.matching.specs.Matchings.{isMatching}
 use Rattle.roommates.specs.Lists.{Square}
 use Rattle.roommates.specs.declared.Stage.{Stage}
-use Rattle.roommates.specs.Moves.{Outcome, worked, settles, shortens}
+use Rattle.roommates.specs.Moves.{Outcome}
 use Rattle.roommates.specs.Left.{pairingOf, entryCount, listBytes}
 use Rattle.matching.proofs.PairCounts.{paired-few}
 use Rattle.matching.specs.Matchings.{pairCount}
 use Rattle.roommates.proofs.Sound.{promise-sound}
 use Rattle.roommates.proofs.EntryCounts.{entries-bound, entries-kept}
 use Rattle.roommates.proofs.EntriesListed.{all-listed, pairs-half}
-use Rattle.roommates.proofs.Arrivals.{worked-arrives}
+use Rattle.records.specs.Records.{workedBy, settlesBy, shortensBy}
+use Rattle.records.proofs.RecordDemands.{worked-by-arrives}
 use Rattle.roommates.proofs.WorkingsEnd.{arrived-shrunk, arrived-few}
 use Rattle.roommates.proofs.PairsWritten.{pairing-length}
 use Rattle.stages.specs.declared.Place.{Place}
@@ -66,13 +67,13 @@ module _ (n : ℕ) (t : Square) (cs : List ℕ) (room : ℕ) where
   pub settle-nine : room < n → firstFault (settleSays n t cs room .faults) ≡ 9
   settle-nine h = rw (lt-ltb room n h) (fault-stops 9 _ (λ z. omega arith))
 
-  pub settle-choice : n ≤ room → firstFault (settleSays n t cs room .faults) ≡ settles n t cs .refusal
+  pub settle-choice : n ≤ room → firstFault (settleSays n t cs room .faults) ≡ settlesBy n t cs .refusal
   settle-choice h = fault-passes _ _ (rw (le-ltb room n h) refl) ∙ last-fault _
 
   pub shorten-nine : (m : ℕ) → room < 2 + 3 * m → firstFault (shortenSays n m t cs room .faults) ≡ 9
   shorten-nine m h = rw (lt-ltb room (2 + 3 * m) h) (fault-stops 9 _ (λ z. omega arith))
 
-  pub shorten-choice : (m : ℕ) → 2 + 3 * m ≤ room → firstFault (shortenSays n m t cs room .faults) ≡ shortens n t cs .refusal
+  pub shorten-choice : (m : ℕ) → 2 + 3 * m ≤ room → firstFault (shortenSays n m t cs room .faults) ≡ shortensBy n t cs .refusal
   shorten-choice m h = fault-passes _ _ (rw (le-ltb room (2 + 3 * m) h) refl) ∙ last-fault _
 
 -- SETTLE, over n joints' lists
@@ -83,7 +84,7 @@ module _ (n : ℕ) (t : Square) (cs out : List ℕ) where
   pub settled-short : length out < n → SettledSo settling out (S.Refused 9) out
   settled-short h = so-refused settling out (settle-nine n t cs (length out) h) (omega arith)
 
-  module _ (g : Place) {u : Square} (w : outcomeAt u g ≡ settles n t cs) (long : n ≤ length out) where
+  module _ (g : Place) {u : Square} (w : outcomeAt u g ≡ settlesBy n t cs) (long : n ≤ length out) where
     choice : firstFault (settling .faults) ≡ g .refusal
     choice = settle-choice n t cs (length out) long ∙ sym (ap (λ (o : Outcome). o .refusal) w)
 
@@ -93,8 +94,8 @@ module _ (n : ℕ) (t : Square) (cs out : List ℕ) where
     pub settled-at : (v : Stage) → g .refusal ≡ 0 → g .stage ≡ v
         → SettledSo settling out (endedAs v (pairCount (pairingOf n u))) (resultOver v (pairingOf n u) out)
     settled-at v none h =
-        let verdict : settles n t cs .work-is .stage ≡ v = sym (ap (λ (o : Outcome). o .work-is .stage) w) ∙ h in
-        let lists : settles n t cs .work-is .lists ≡ u = sym (ap (λ (o : Outcome). o .work-is .lists) w) in
+        let verdict : settlesBy n t cs .work-is .stage ≡ v = sym (ap (λ (o : Outcome). o .work-is .stage) w) ∙ h in
+        let lists : settlesBy n t cs .work-is .lists ≡ u = sym (ap (λ (o : Outcome). o .work-is .lists) w) in
         rw (choice, none, verdict, lists) (refl, refl)
 
 -- SHORTEN, over n joints' lists with m entries
@@ -105,7 +106,7 @@ module _ (n m : ℕ) (t : Square) (cs out : List ℕ) where
   pub shortened-short : length out < 2 + 3 * m → ShortenedSo shortening out (L.Refused 9) out
   shortened-short h = so-short shortening out (shorten-nine n t cs (length out) m h) (omega arith)
 
-  module _ (g : Place) {u : Square} (w : outcomeAt u g ≡ shortens n t cs) (long : 2 + 3 * m ≤ length out) where
+  module _ (g : Place) {u : Square} (w : outcomeAt u g ≡ shortensBy n t cs) (long : 2 + 3 * m ≤ length out) where
     choice′ : firstFault (shortening .faults) ≡ g .refusal
     choice′ = shorten-choice n t cs (length out) m long ∙ sym (ap (λ (o : Outcome). o .refusal) w)
 
@@ -115,8 +116,8 @@ module _ (n m : ℕ) (t : Square) (cs out : List ℕ) where
     pub shortened-at : (v : Stage) → g .refusal ≡ 0 → g .stage ≡ v
         → ShortenedSo shortening out (listedAs v (entryCount n u)) (resultOver v (listBytes n u) out)
     shortened-at v none h =
-        let verdict : shortens n t cs .work-is .stage ≡ v = sym (ap (λ (o : Outcome). o .work-is .stage) w) ∙ h in
-        let lists : shortens n t cs .work-is .lists ≡ u = sym (ap (λ (o : Outcome). o .work-is .lists) w) in
+        let verdict : shortensBy n t cs .work-is .stage ≡ v = sym (ap (λ (o : Outcome). o .work-is .stage) w) ∙ h in
+        let lists : shortensBy n t cs .work-is .lists ≡ u = sym (ap (λ (o : Outcome). o .work-is .lists) w) in
         rw (choice′, none, verdict, lists) (refl, refl)
 
 -- OVER A SHEET: its own refusal, or what its joints and lists give
@@ -137,7 +138,7 @@ counts-or (suc f) e h = refl
 
 module _ (whole : Bool) (s cs : List ℕ) where
   abbrev end : Outcome
-  end = worked whole (joints s) (squareOf s) cs
+  end = workedBy whole (joints s) (squareOf s) cs
 
   pub counts-refused : {k : ℕ} → (sheetFault s ≡ k) × (1 ≤ k) → counts k 0 0 ≡ countsOf whole s cs
   counts-refused {k} h = rw (last-fault (sheetFault s), h .0) (sym (counts-or k end (h .1)))
@@ -185,7 +186,7 @@ module _ (s : List ℕ) (parts : Parts) (t : Square) (known : ListsAs s parts t)
       shortened-accepted s (shortening (joints s) (rankCount s) (squareOf s) cs out) out (read .faultless)
       (rw (known .square, read .n-joints, read .m-entries) at h)
 
-  pub counts-read : (whole : Bool) (cs : List ℕ) {r : Counts} → r ≡ endCounts (worked whole (parts .joints) t cs) → r ≡ countsOf whole s cs
+  pub counts-read : (whole : Bool) (cs : List ℕ) {r : Counts} → r ≡ endCounts (workedBy whole (parts .joints) t cs) → r ≡ countsOf whole s cs
   counts-read whole cs h = counts-accepted whole s cs (read .faultless) (rw (known .square, read .n-joints) at h)
 
   pub check-read : (m : List ℕ) {r : Checked} → r ≡ offerOf (parts .joints) t m → r ≡ checkOf s m
@@ -204,17 +205,17 @@ pairs-few n few u =
 
 -- both counts fit a u32, refused choices included
 pub work-few : (whole : Bool) (n : ℕ) (t : Square) → SquarePromise n t → (cs : List ℕ)
-    → (worked whole n t cs .work-is .proposals ≤ 16384) × (worked whole n t cs .work-is .cuts ≤ 16384)
+    → (workedBy whole n t cs .work-is .proposals ≤ 16384) × (workedBy whole n t cs .work-is .cuts ≤ 16384)
 work-few whole n t promise cs =
     let k = mul-le-mul (promise .few-joints) (promise .few-joints) in
-    let few = arrived-few (promise-sound promise) (worked-arrives {whole = whole} cs) in
+    let few = arrived-few (promise-sound promise) (worked-by-arrives whole n t cs) in
     let few0 = few .0 in
     let few1 = few .1 in
     let e = entries-bound n t in
     (omega arith, omega arith)
 
 -- the lists that shorten's working leaves have no more entries than there were
-pub left-fits : (n : ℕ) (t : Square) (cs : List ℕ) → SquarePromise n t → entryCount n (shortens n t cs .work-is .lists) ≤ entryCount n t
+pub left-fits : (n : ℕ) (t : Square) (cs : List ℕ) → SquarePromise n t → entryCount n (shortensBy n t cs .work-is .lists) ≤ entryCount n t
 left-fits n t cs promise =
-    let k = arrived-shrunk (promise-sound promise) (worked-arrives {whole = false} cs) in
-    entries-kept n t (shortens n t cs .work-is .lists) (k .below)
+    let k = arrived-shrunk (promise-sound promise) (worked-by-arrives false n t cs) in
+    entries-kept n t (shortensBy n t cs .work-is .lists) (k .below)

@@ -10,8 +10,9 @@ use Rattle.sheet.specs.Refusals.{sheetFault}
 use Rattle.sheet.specs.Square.{squareOf}
 use Rattle.writing.specs.Written.{over}
 use Rattle.roommates.specs.Lists.{Square}
-use Rattle.roommates.specs.Moves.{Outcome, worked, settles, shortens}
+use Rattle.roommates.specs.Moves.{Outcome}
 use Rattle.roommates.specs.Left.{pairingOf, entryCount, listBytes}
+use Rattle.records.specs.Records.{workedBy, settlesBy, shortensBy}
 use Rattle.roommates.specs.declared.Stage.{Stage}
 use Rattle.roommates.specs.declared.Stage.the-variants.{Proposing, Cutting, NoneOne, NoneTwo, Paired}
 use Rattle.matching.specs.Matchings.{pairCount}
@@ -31,28 +32,28 @@ pub record Says : Type 0 where
   pub count : ℕ
   pub bytes : List ℕ
 
--- SETTLE, for n joints with the lists t and a buffer of `room` bytes: 9 where it is shorter than n, then the refusal of a choice.
+-- SETTLE, for n joints with the lists t and a buffer of `room` bytes: 9 where it is shorter than n, then what is refused of the choices.
 -- The result is the pairing where the working ended, and its count of pairs.
 abbrev pub partnersOf : ℕ → Square → List ℕ → List ℕ
-partnersOf n t cs = pairingOf n (settles n t cs .work-is .lists)
+partnersOf n t cs = pairingOf n (settlesBy n t cs .work-is .lists)
 
 abbrev pub settleSays : ℕ → Square → List ℕ → ℕ → Says
 settleSays n t cs room = record {
-  faults = when (ltb room n) 9 ∷ (settles n t cs .refusal ∷ []);
-  verdict = settles n t cs .work-is .stage;
+  faults = when (ltb room n) 9 ∷ (settlesBy n t cs .refusal ∷ []);
+  verdict = settlesBy n t cs .work-is .stage;
   count = pairCount (partnersOf n t cs);
   bytes = partnersOf n t cs;
 }
 
--- SHORTEN, for n joints with m entries and the lists t: 9 for a buffer shorter than 2 + 3 × m, then the refusal of a choice.
+-- SHORTEN, for n joints with m entries and the lists t: 9 for a buffer shorter than 2 + 3 × m, then what is refused of the choices.
 -- The result is the lists where phase one ended, and their count of entries.
 abbrev pub leftOf : ℕ → Square → List ℕ → Square
-leftOf n t cs = shortens n t cs .work-is .lists
+leftOf n t cs = shortensBy n t cs .work-is .lists
 
 abbrev pub shortenSays : ℕ → ℕ → Square → List ℕ → ℕ → Says
 shortenSays n m t cs room = record {
-  faults = when (ltb room (2 + 3 * m)) 9 ∷ (shortens n t cs .refusal ∷ []);
-  verdict = shortens n t cs .work-is .stage;
+  faults = when (ltb room (2 + 3 * m)) 9 ∷ (shortensBy n t cs .refusal ∷ []);
+  verdict = shortensBy n t cs .work-is .stage;
   count = entryCount n (leftOf n t cs);
   bytes = listBytes n (leftOf n t cs);
 }
@@ -136,7 +137,7 @@ shortenAnswer s cs out = shortenedBy (shortenCall s cs out)
 abbrev pub shortenBytes : List ℕ → List ℕ → List ℕ → List ℕ
 shortenBytes s cs out = leftBy (shortenCall s cs out) out
 
--- COUNTS. The proposals and cuts of a working, beside its end or beside a refused choice; 0 and 0 where a refusal comes before it.
+-- COUNTS. The proposals and cuts of a working, beside its end or beside a refused record; 0 and 0 where a refusal comes before the first.
 abbrev pub counts : ℕ → ℕ → ℕ → Counts
 counts number made cut = record { number = number; proposals = made; cuts = cut }
 
@@ -148,4 +149,4 @@ countsAs zero e = endCounts e
 countsAs (suc k) e = counts (suc k) 0 0
 
 abbrev pub countsOf : Bool → List ℕ → List ℕ → Counts
-countsOf whole s cs = countsAs (firstFault (sheetFault s ∷ [])) (worked whole (joints s) (squareOf s) cs)
+countsOf whole s cs = countsAs (firstFault (sheetFault s ∷ [])) (workedBy whole (joints s) (squareOf s) cs)

@@ -4,12 +4,12 @@ use sheet::Reading;
 use steering::working;
 ghost use mathlib.Core.Path.{_≡_};
 ghost use Rattle.sheet.specs.Square.{SquarePromise};
-ghost use Rattle.roommates.specs.Moves.{worked};
+ghost use Rattle.records.specs.Records.{workedBy};
 ghost use Rattle.calls.specs.Calls.{endCounts, countsOf};
 
 fn count_lists(n: usize, bands: [[u8; 128]; 128], choices: &[u8], whole: bool) -> Counts
     requires { ⌜ SquarePromise n bands ⌝ }
-    ensures { λ r. ⌜ r ≡ endCounts (worked whole n bands (now (choices .entry))) ⌝ }
+    ensures { λ r. ⌜ r ≡ endCounts (workedBy whole n bands (now (choices .entry))) ⌝ }
 {
     let mut left = [[0u8; 128]; 128];
     let end = working(n, bands, choices, whole, &mut left);

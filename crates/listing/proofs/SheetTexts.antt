@@ -19,7 +19,7 @@ use Rattle.sheet.proofs.ReadAs.{ListsAs}
 use Rattle.sheet.proofs.Accepted.{accepted}
 use Rattle.roommates.specs.Lists.{Square, row, listLength}
 use Rattle.roommates.specs.Left.{partnerOn, pairingOf}
-use Rattle.roommates.specs.Moves.{settles}
+use Rattle.records.specs.Records.{settlesBy}
 use Rattle.roommates.proofs.PairsWritten.{partner-none, partner-some, pairing-length, pairing-at}
 use Rattle.matching.specs.Matchings.{partner, isAlone}
 use Rattle.calls.specs.declared.Phase.{Phase}
@@ -69,12 +69,12 @@ paired-lists label n t {k} {bytes} e b =
     let rest : List ℕ = drop (length m) buffer in
     let c = settleSays n t [] (length buffer) in
     let is : bytes ≡ m ++ rest = b ∙ pairing-written (firstFault (c .faults)) (c .verdict) (c .count) m buffer e in
-    let size : length m ≡ n = pairing-length n (settles n t [] .work-is .lists) in
+    let size : length m ≡ n = pairing-length n (settlesBy n t [] .work-is .lists) in
     let front : take n (m ++ rest) ≡ m = take-at m rest n size in
     rw is record {
       long = rw length-append (omega arith);
       size = rw front size;
-      within = rw front (pairing-within n (settles n t [] .work-is .lists));
+      within = rw front (pairing-within n (settlesBy n t [] .work-is .lists));
       text = rw (e, front);
     }
 
@@ -117,7 +117,7 @@ lists-short s n t few = go (answer n t)
   where
     go : (a : Settled) → length (answerText (labelOf s) (partnersOf n t []) a) ≤ 4400
     go (S.Ended (E.Paired k)) =
-        let size : length (partnersOf n t []) ≡ n = pairing-length n (settles n t [] .work-is .lists) in
+        let size : length (partnersOf n t []) ≡ n = pairing-length n (settlesBy n t [] .work-is .lists) in
         let h = pairing-short (labelOf s) (labels-short s 1) (partnersOf n t []) (omega arith) in
         omega arith
     go (S.Ended (E.None p)) = let h = number-line-short noneWord (phaseNumber p) in omega arith

@@ -13,14 +13,14 @@ use Rattle.sheet.specs.Format.{joints, entriesOf}
 use Rattle.sheet.specs.Refusals.{sheetFault}
 use Rattle.sheet.specs.Square.{squareOf}
 use Rattle.sheet.proofs.PromiseKept.{accepted-square}
-use Rattle.roommates.specs.Moves.{Outcome, worked}
+use Rattle.roommates.specs.Moves.{Outcome}
 use Rattle.roommates.proofs.EntriesListed.{all-listed, pairs-half}
-use Rattle.roommates.proofs.Demands.{demands}
+use Rattle.records.specs.Records.{workedBy}
+use Rattle.records.specs.Claims.{BytesRefused}
+use Rattle.records.proofs.RecordDemands.{worked-by-arrives, record-demands}
+use Rattle.records.proofs.RecordRefusals.{record-refusals}
 use Rattle.roommates.specs.Runs.{Arrived}
-use Rattle.roommates.specs.Claims.{RefusedBy}
-use Rattle.roommates.proofs.Arrivals.{worked-arrives}
 use Rattle.roommates.proofs.CountsAsSaid.{counts-as-said}
-use Rattle.roommates.proofs.ChoicesRefused.{refusals}
 use Rattle.calls.specs.declared.Counts.{Counts}
 use Rattle.calls.specs.Calls.{endCounts, countsAs, countsOf}
 use Rattle.promises.specs.Claims.{CountsAre, CallsKeep}
@@ -44,32 +44,32 @@ small-or zero e h = h refl
 small-or (suc f) e h = (omega arith, omega arith)
 
 module _ (s : List ℕ) where
-  work-proposals : (whole : Bool) (cs : List ℕ) → sheetFault s ≡ 0 → worked whole (joints s) (squareOf s) cs .work-is .proposals ≤ joints s * joints s
-  work-proposals true cs f = demands s f .few-proposals cs .0
-  work-proposals false cs f = demands s f .few-proposals cs .1
+  work-proposals : (whole : Bool) (cs : List ℕ) → sheetFault s ≡ 0 → workedBy whole (joints s) (squareOf s) cs .work-is .proposals ≤ joints s * joints s
+  work-proposals true cs f = record-demands s f .few-proposals cs .0
+  work-proposals false cs f = record-demands s f .few-proposals cs .1
 
-  work-cuts : (whole : Bool) (cs : List ℕ) → sheetFault s ≡ 0 → worked whole (joints s) (squareOf s) cs .work-is .cuts ≤ listedPairs (entriesOf s)
+  work-cuts : (whole : Bool) (cs : List ℕ) → sheetFault s ≡ 0 → workedBy whole (joints s) (squareOf s) cs .work-is .cuts ≤ listedPairs (entriesOf s)
   work-cuts true cs f =
       let all = all-listed s f in
-      omega (arith, demands s f .few-cuts cs .0)
-  work-cuts false cs f = omega (arith, demands s f .few-cuts cs .1)
+      omega (arith, record-demands s f .few-cuts cs .0)
+  work-cuts false cs f = omega (arith, record-demands s f .few-cuts cs .1)
 
-  work-no-cuts : (cs : List ℕ) → sheetFault s ≡ 0 → worked false (joints s) (squareOf s) cs .work-is .cuts ≤ 0
-  work-no-cuts cs f = omega (arith, demands s f .few-cuts cs .1)
+  work-no-cuts : (cs : List ℕ) → sheetFault s ≡ 0 → workedBy false (joints s) (squareOf s) cs .work-is .cuts ≤ 0
+  work-no-cuts cs f = omega (arith, record-demands s f .few-cuts cs .1)
 
-  work-no-choices : (whole : Bool) → sheetFault s ≡ 0 → worked whole (joints s) (squareOf s) [] .refusal ≡ 0
-  work-no-choices true f = demands s f .no-choices .0
-  work-no-choices false f = demands s f .no-choices .1
+  work-no-choices : (whole : Bool) → sheetFault s ≡ 0 → workedBy whole (joints s) (squareOf s) [] .refusal ≡ 0
+  work-no-choices true f = record-demands s f .no-choices .0
+  work-no-choices false f = record-demands s f .no-choices .1
 
   no-cuts : (cs : List ℕ) → countsOf false s cs .cuts ≡ 0
   no-cuts cs =
       rw (last-fault (sheetFault s))
-      (let c = cuts-or (sheetFault s) (worked false (joints s) (squareOf s) cs) 0 (work-no-cuts cs) in omega arith)
+      (let c = cuts-or (sheetFault s) (workedBy false (joints s) (squareOf s) cs) 0 (work-no-cuts cs) in omega arith)
 
   counts-are : (whole : Bool) (cs : List ℕ) → sheetFault s ≡ 0 → CountsAre whole s cs
   counts-are whole cs f =
-      let w = worked whole (joints s) (squareOf s) cs in
-      let a : Arrived whole (joints s) (squareOf s) (w .work-is) = worked-arrives cs in
+      let w = workedBy whole (joints s) (squareOf s) cs in
+      let a : Arrived whole (joints s) (squareOf s) (w .work-is) = worked-by-arrives whole (joints s) (squareOf s) cs in
       let e : countsOf whole s cs ≡ endCounts w = rw (last-fault (sheetFault s), f) refl in
       let said = counts-as-said whole (joints s) (squareOf s) (w .work-is) a in record {
         arrived = a;
@@ -78,10 +78,10 @@ module _ (s : List ℕ) where
       }
 
   choice-refused : (whole : Bool) (cs : List ℕ) (k : ℕ) → 11 ≤ k
-      → (countsOf whole s cs .number ≡ k) ↔ ((sheetFault s ≡ 0) × RefusedBy whole (joints s) (squareOf s) cs k)
+      → (countsOf whole s cs .number ≡ k) ↔ ((sheetFault s ≡ 0) × BytesRefused whole (joints s) (squareOf s) cs k)
   choice-refused whole cs k big =
-      let o = worked whole (joints s) (squareOf s) cs in
-      let by = refusals whole (joints s) (squareOf s) cs .refused-by k (λ z. omega arith) in
+      let o = workedBy whole (joints s) (squareOf s) cs in
+      let by = record-refusals whole (joints s) (squareOf s) cs .refused-by k (λ z. omega arith) in
       let number = counts-number (sheetFault s) o in (
         λ h.
             let e : firstFault (sheetFault s ∷ (o .refusal ∷ [])) ≡ k = sym number ∙ h in
@@ -121,6 +121,6 @@ module _ (s : List ℕ) where
     no-cuts = no-cuts;
     counts-small = λ whole cs. rw (last-fault (sheetFault s)) (small-or (sheetFault s) _ (λ f. work-few whole (joints s) (squareOf s) (accepted-square s f) cs));
     no-choices = λ whole f.
-        rw (counts-number (sheetFault s) (worked whole (joints s) (squareOf s) []))
+        rw (counts-number (sheetFault s) (workedBy whole (joints s) (squareOf s) []))
         (fault-passes (sheetFault s) _ f ∙ last-fault _ ∙ work-no-choices whole f);
   }

@@ -4,6 +4,7 @@ pub mod CheckKeeps
 pub mod SettleKeeps
 pub mod ShortenKeeps
 pub mod CallsKeep
+pub mod CallsReplayed
 pub mod OneSided
 -- the rows of document 01, by computation
 pub mod StarredRows

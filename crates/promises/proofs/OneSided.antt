@@ -20,7 +20,7 @@ use Rattle.matching.specs.Matchings.{partner, isMatching, pairNumber}
 use Rattle.blocking.specs.declared.Checked.the-variants as C
 use Rattle.blocking.specs.Blocking.{blockingPair}
 use Rattle.roommates.specs.Lists.{Square}
-use Rattle.roommates.specs.Moves.{worked}
+use Rattle.records.specs.Records.{workedBy}
 use Rattle.roommates.proofs.EntriesListed.{all-listed, pairs-half}
 use Rattle.relisting.specs.Written.{without}
 use Rattle.relisting.specs.Claims.{SheetWith}
@@ -45,7 +45,7 @@ module _ (s : List ℕ) (n : ℕ) (t : Square) (f : sheetFault s ≡ 0) (same : 
         rw (fault-passes (sheetFault s) _ f, le-ltb (length out) (2 + 3 * rankCount s) fits, le-ltb (length out) (2 + 3 * 0) least, same, number),
       )
 
-  counts-on : (whole : Bool) (cs : List ℕ) → countsOf whole s cs ≡ endCounts (worked whole n t cs)
+  counts-on : (whole : Bool) (cs : List ℕ) → countsOf whole s cs ≡ endCounts (workedBy whole n t cs)
   counts-on whole cs = rw (last-fault (sheetFault s), f, same, number)
 
   check-on : (m : List ℕ) → checkOf s m ≡ checkedAs (when (not (isMatching n t m)) 10) (blockingPair n t m)

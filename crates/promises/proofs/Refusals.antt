@@ -13,9 +13,9 @@ use Rattle.base.proofs.Cases.{case, lt-ge}
 use Rattle.base.proofs.Faults.{answered-at, first-none, fault-passes, last-fault, when-none}
 use Rattle.promises.specs.Claims.{Refuses}
 
--- nothing is refused, or 11 to 13
+-- nothing is refused, or 11 to 15
 abbrev OfChoice : ℕ → Type 0
-OfChoice r = (r ≡ 0) ⊎ ((11 ≤ r) × (r ≤ 13))
+OfChoice r = (r ≡ 0) ⊎ ((11 ≤ r) × (r ≤ 15))
 
 -- The sheet's refusal f, 9 for a buffer of `room` bytes where `need` are due, and that of the choices c.
 abbrev pub callFaults : ℕ → ℕ → ℕ → ℕ → List ℕ
@@ -98,7 +98,7 @@ module _ (f room need c : ℕ) (known : (f ≤ 6) ⊎ (f ≡ 8)) (choice : f ≡
       before fits z (suc zero) g = rw (le-ltb room need fits)
       before fits z (suc (suc l)) g = absurd (omega arith)
 
-  numbers : (k : ℕ) → 1 ≤ k → firstFault faults ≡ k → ((1 ≤ k) × (k ≤ 6)) ⊎ (((8 ≤ k) × (k ≤ 9)) ⊎ ((11 ≤ k) × (k ≤ 13)))
+  numbers : (k : ℕ) → 1 ≤ k → firstFault faults ≡ k → ((1 ≤ k) × (k ≤ 6)) ⊎ (((8 ≤ k) × (k ≤ 9)) ⊎ ((11 ≤ k) × (k ≤ 15)))
   numbers k some h =
       case (lt-ge 9 k)
       (λ above.

@@ -22,11 +22,12 @@ use Rattle.blocking.proofs.SuperStableTest.{is-super-stable-means}
 use Rattle.writing.specs.Written.{over}
 use Rattle.roommates.specs.declared.Stage.{Stage}
 use Rattle.roommates.specs.declared.Stage.the-variants.{Proposing, Cutting, NoneOne, NoneTwo, Paired}
-use Rattle.roommates.specs.Moves.{Outcome, settles}
+use Rattle.roommates.specs.Moves.{Outcome}
 use Rattle.roommates.specs.Claims.{Answer, countFor, answerOf}
-use Rattle.roommates.proofs.ChoicesRefused.{refusal-number, refusals}
 use Rattle.roommates.proofs.PairsWritten.{pairing-length}
-use Rattle.roommates.proofs.Demands.{demands}
+use Rattle.records.specs.Records.{isOdd, settlesBy}
+use Rattle.records.proofs.RecordDemands.{record-demands}
+use Rattle.records.proofs.RecordRefusals.{refusal-number, record-refusals}
 use Rattle.calls.specs.declared.Phase.{Phase}
 use Rattle.calls.specs.declared.End.{End}
 use Rattle.calls.specs.declared.End.the-variants as E
@@ -82,7 +83,7 @@ settled-for Paired c = refl
 
 -- THE CALL: its first refusal, its working's verdict, its count
 abbrev pub verdictOn : List ℕ → List ℕ → Stage
-verdictOn s cs = settles (joints s) (squareOf s) cs .work-is .stage
+verdictOn s cs = settlesBy (joints s) (squareOf s) cs .work-is .stage
 
 abbrev pub pairsOn : List ℕ → List ℕ → ℕ
 pairsOn s cs = pairCount (partnersOf (joints s) (squareOf s) cs)
@@ -92,7 +93,7 @@ module _ (s cs out : List ℕ) where
   fault = firstFault (settleCall s cs out .faults)
 
   -- an accepted sheet, room for a pairing, and choices within the rules
-  pub settle-ran : fault ≡ 0 → (sheetFault s ≡ 0) × (joints s ≤ length out) × (settles (joints s) (squareOf s) cs .refusal ≡ 0)
+  pub settle-ran : fault ≡ 0 → (sheetFault s ≡ 0) × (joints s ≤ length out) × (settlesBy (joints s) (squareOf s) cs .refusal ≡ 0)
   settle-ran = no-fault (sheetFault s) (length out) (joints s) _
 
   pub settle-unrefused : settledNumber (settleAnswer s cs out) ≡ 0 → fault ≡ 0
@@ -102,7 +103,7 @@ module _ (s cs out : List ℕ) where
   settle-ends h = rw h
 
   fair : Fair fault (verdictOn s cs)
-  fair z = let r = settle-ran z in demands s (r .0) .says-one cs (r .2)
+  fair z = let r = settle-ran z in record-demands s (r .0) .says-one cs (r .2)
 
   says : (k : ℕ) → settleAnswer s cs out ≡ S.Refused k ↔ ((fault ≡ k) × (1 ≤ k))
   says k = settled-says fault (verdictOn s cs) (pairsOn s cs) k fair
@@ -114,8 +115,8 @@ module _ (s cs out : List ℕ) where
 
   pub settle-refuses : Refuses (sheetFault s) (countsOf true s cs .number) (joints s) (length out) (λ k. settleAnswer s cs out ≡ S.Refused k)
   settle-refuses =
-      rw (counts-number (sheetFault s) (settles (joints s) (squareOf s) cs))
-      (refuses (sheetFault s) (length out) (joints s) (settles (joints s) (squareOf s) cs .refusal) (sheet-numbers s)
+      rw (counts-number (sheetFault s) (settlesBy (joints s) (squareOf s) cs))
+      (refuses (sheetFault s) (length out) (joints s) (settlesBy (joints s) (squareOf s) cs .refusal) (sheet-numbers s)
       (λ f. refusal-number true (joints s) (squareOf s) cs)
       (λ k. settleAnswer s cs out ≡ S.Refused k)
       says)
@@ -136,7 +137,7 @@ module _ (s cs out : List ℕ) where
   settle-none p h =
       let r = settle-ran (none-refused (E.None p) h) in
       let other : verdictOn s cs ≢ Paired = settled-none (verdictOn s cs) (pairsOn s cs) p (ended (E.None p) h) in
-      let blocked : (m : List ℕ) → isSuperStable (joints s) (squareOf s) m ≡ false = λ m. demands s (r .0) .none-is cs m (r .2) other in
+      let blocked : (m : List ℕ) → isSuperStable (joints s) (squareOf s) m ≡ false = λ m. record-demands s (r .0) .none-is cs m (r .2) other in
       (unpaired-unwritten fault (verdictOn s cs) _ out other, λ m. (blocked m, check-blocked s m (blocked m)))
 
   pub settle-paired : (k : ℕ) → settleAnswer s cs out ≡ S.Ended (E.Paired k) → PairingIs s out (settleBytes s cs out) k
@@ -144,27 +145,27 @@ module _ (s cs out : List ℕ) where
       let z = none-refused (E.Paired k) h in
       let r = settle-ran z in
       let v = settled-paired (verdictOn s cs) (pairsOn s cs) k (ended (E.Paired k) h) in
-      let d = demands s (r .0) in
+      let d = record-demands s (r .0) in
       let w : settleBytes s cs out ≡ over (partnersOf (joints s) (squareOf s) cs) out = rw (z, v .0) refl in
       let o : Over (joints s) (partnersOf (joints s) (squareOf s) cs) out (settleBytes s cs out)
       = over-is (joints s) (partnersOf (joints s) (squareOf s) cs) out (settleBytes s cs out) w
-      (pairing-length (joints s) (settles (joints s) (squareOf s) cs .work-is .lists)) (r .1) in
+      (pairing-length (joints s) (settlesBy (joints s) (squareOf s) cs .work-is .lists)) (r .1) in
       let good : Super s (partnersOf (joints s) (squareOf s) cs) = d .is-super cs (r .2) (v .0) in
       record {
         super-stable = rw (o .first) good;
         checked = rw (o .first) (check-super s _ (r .0) good);
         pairs = rw (o .first) (v .1);
-        at-most = omega (arith, v .1, pairs-few (joints s) (accepted-square s (r .0) .few-joints) (settles (joints s) (squareOf s) cs .work-is .lists));
+        at-most = omega (arith, v .1, pairs-few (joints s) (accepted-square s (r .0) .few-joints) (settlesBy (joints s) (squareOf s) cs .work-is .lists));
         same-joints = λ m super a l. rw (o .first) (d .same-joints cs m a (r .2) (v .0) super l);
         past = o .past;
         same-length = o .same-length;
       }
 
--- choices left off earlier
-pub settle-beginning : (s cs ds out : List ℕ) → settledNumber (settleAnswer s (cs ++ ds) out) ≡ 0 → settledNumber (settleAnswer s cs out) ≡ 0
-settle-beginning s cs ds out h =
+-- records left off earlier
+pub settle-beginning : (s cs ds out : List ℕ) → isOdd (length cs) ≡ false → settledNumber (settleAnswer s (cs ++ ds) out) ≡ 0 → settledNumber (settleAnswer s cs out) ≡ 0
+settle-beginning s cs ds out even h =
     let r = settle-ran s (cs ++ ds) out (settle-unrefused s (cs ++ ds) out h) in
-    let z = refusals true (joints s) (squareOf s) cs .beginning ds (r .2) in
+    let z = record-refusals true (joints s) (squareOf s) cs .beginning ds even (r .2) in
     settled-number _ (verdictOn s cs) (pairsOn s cs) ∙ all-pass (sheetFault s) (length out) (joints s) _ (r .0) (r .1) z
 
 -- two calls that refuse nothing
@@ -175,8 +176,8 @@ settle-same s cs ds out out′ h g =
     let z = settle-unrefused s ds out′ g in
     let p = settle-ran s cs out y in
     let q = settle-ran s ds out′ z in
-    let e : answerOf (joints s) (settles (joints s) (squareOf s) cs .work-is) ≡ answerOf (joints s) (settles (joints s) (squareOf s) ds .work-is)
-    = demands s (p .0) .one-answer cs ds (p .2) (q .2) in
+    let e : answerOf (joints s) (settlesBy (joints s) (squareOf s) cs .work-is) ≡ answerOf (joints s) (settlesBy (joints s) (squareOf s) ds .work-is)
+    = record-demands s (p .0) .one-answer cs ds (p .2) (q .2) in
     settle-ends s cs out y ∙ settled-for (verdictOn s cs) (pairsOn s cs)
     ∙ ap (λ (a : Answer). endedAs (a .verdict) (a .count)) e
     ∙ sym (settled-for (verdictOn s ds) (pairsOn s ds)) ∙ sym (settle-ends s ds out′ z)

@@ -19,16 +19,12 @@ use Rattle.roommates.specs.Lists.{Square}
 use Rattle.roommates.specs.declared.Stage.{Stage}
 use Rattle.roommates.specs.declared.Stage.the-variants.{NoneOne, Paired}
 use Rattle.roommates.specs.PhaseOne.{Work}
-use Rattle.roommates.specs.Moves.{shortens}
 use Rattle.roommates.specs.Runs.{OneEnded, Arrived}
 use Rattle.roommates.specs.Left.{entryCount, listBytes}
 use Rattle.roommates.proofs.Sound.{promise-sound}
 use Rattle.roommates.proofs.EntriesListed.{all-listed, pairs-half}
 use Rattle.roommates.proofs.EntriesWritten.{bytes-length}
 use Rattle.roommates.proofs.Stages.{one-paired}
-use Rattle.roommates.proofs.WorkingsEnd.{worked-ends}
-use Rattle.roommates.proofs.ChoicesRefused.{refusal-number, not-twelve, refusals}
-use Rattle.roommates.proofs.Arrivals.{worked-arrives}
 use Rattle.roommates.proofs.Shortenings.{Shortened, left-none, left-lists, arrived-shortened}
 use Rattle.relisting.specs.Written.{PairsStruck, left, bytesOf, countBytes, relisted}
 use Rattle.relisting.specs.Claims.{SheetWith}
@@ -36,7 +32,9 @@ use Rattle.relisting.proofs.EntryBytes as B
 use Rattle.relisting.proofs.Strikes.{shorten-strikes}
 use Rattle.relisting.proofs.LeftWritten.{written-entries}
 use Rattle.relisting.proofs.Rereading.{reads-back, written-returned}
-use Rattle.roommates.proofs.Demands.{demands}
+use Rattle.records.specs.Records.{isOdd, shortensBy}
+use Rattle.records.proofs.RecordDemands.{worked-by-arrives, worked-by-ends, record-demands}
+use Rattle.records.proofs.RecordRefusals.{refusal-number, not-twelve, record-refusals}
 use Rattle.calls.specs.declared.Phase.the-variants as P
 use Rattle.calls.specs.declared.End.the-variants as E
 use Rattle.calls.specs.declared.Settled.the-variants as S
@@ -72,29 +70,29 @@ ended-lists a p = go (arrived-shortened a (inr (inr p))) p
 
 -- THE CALL: its first refusal, its working's verdict, its count
 abbrev endsOn : List ℕ → List ℕ → Stage
-endsOn s cs = shortens (joints s) (squareOf s) cs .work-is .stage
+endsOn s cs = shortensBy (joints s) (squareOf s) cs .work-is .stage
 
 abbrev entriesOn : List ℕ → List ℕ → ℕ
 entriesOn s cs = entryCount (joints s) (leftOf (joints s) (squareOf s) cs)
 
 abbrev Unrefused : List ℕ → List ℕ → Type 0
-Unrefused s cs = shortens (joints s) (squareOf s) cs .refusal ≡ 0
+Unrefused s cs = shortensBy (joints s) (squareOf s) cs .refusal ≡ 0
 
 module _ (s cs out : List ℕ) where
   abbrev fault : ℕ
   fault = firstFault (shortenCall s cs out .faults)
 
-  shorten-ran : fault ≡ 0 → (sheetFault s ≡ 0) × (2 + 3 * rankCount s ≤ length out) × Unrefused s cs
+  pub shorten-ran : fault ≡ 0 → (sheetFault s ≡ 0) × (2 + 3 * rankCount s ≤ length out) × Unrefused s cs
   shorten-ran = no-fault (sheetFault s) (length out) (2 + 3 * rankCount s) _
 
-  shorten-unrefused : shortenedNumber (shortenAnswer s cs out) ≡ 0 → fault ≡ 0
+  pub shorten-unrefused : shortenedNumber (shortenAnswer s cs out) ≡ 0 → fault ≡ 0
   shorten-unrefused h = sym (shortened-number fault (endsOn s cs) (entriesOn s cs)) ∙ h
 
   shorten-ends : fault ≡ 0 → shortenAnswer s cs out ≡ listedAs (endsOn s cs) (entriesOn s cs)
   shorten-ends h = rw h
 
   fair : Fair fault (endsOn s cs)
-  fair z = let r = shorten-ran z in worked-ends false (joints s) (promise-sound (accepted-square s (r .0))) cs (r .2)
+  fair z = let r = shorten-ran z in worked-by-ends false (joints s) (squareOf s) (promise-sound (accepted-square s (r .0))) cs (r .2)
 
   says : (k : ℕ) → shortenAnswer s cs out ≡ L.Refused k ↔ ((fault ≡ k) × (1 ≤ k))
   says k = shortened-says fault (endsOn s cs) (entriesOn s cs) k fair
@@ -106,8 +104,8 @@ module _ (s cs out : List ℕ) where
 
   pub shorten-refuses : Refuses (sheetFault s) (countsOf false s cs .number) (2 + 3 * rankCount s) (length out) (λ k. shortenAnswer s cs out ≡ L.Refused k)
   shorten-refuses =
-      rw (counts-number (sheetFault s) (shortens (joints s) (squareOf s) cs))
-      (refuses (sheetFault s) (length out) (2 + 3 * rankCount s) (shortens (joints s) (squareOf s) cs .refusal) (sheet-numbers s)
+      rw (counts-number (sheetFault s) (shortensBy (joints s) (squareOf s) cs))
+      (refuses (sheetFault s) (length out) (2 + 3 * rankCount s) (shortensBy (joints s) (squareOf s) cs .refusal) (sheet-numbers s)
       (λ f. refusal-number false (joints s) (squareOf s) cs)
       (λ k. shortenAnswer s cs out ≡ L.Refused k)
       says)
@@ -147,7 +145,7 @@ module _ (s cs out : List ℕ) where
         over-is (2 + 3 * k) _ out (shortenBytes s cs out) written (omega arith) (omega arith)
 
     struck : PairsStruck (squareOf s) lists
-    struck = shorten-strikes s cs (ran .0)
+    struck = shorten-strikes s (shortensBy (joints s) (squareOf s) cs .work-is) (ran .0) (worked-by-arrives false (joints s) (squareOf s) cs)
 
     few : length (left lists (entriesOf s)) ≡ k
     few =
@@ -162,7 +160,7 @@ module _ (s cs out : List ℕ) where
     back = rw (lists-over .first) (reads-back s lists (ran .0) struck)
 
     pub shorten-lists : ListsAre s out (shortenBytes s cs out) k
-    shorten-lists = lists-are (ended-lists (worked-arrives {whole = false} cs) (verdict .0))
+    shorten-lists = lists-are (ended-lists (worked-by-arrives false (joints s) (squareOf s) cs) (verdict .0))
       where
         lists-are : (v : Work) × (OneEnded (joints s) (squareOf s) v × (lists ≡ v .lists)) → ListsAre s out (shortenBytes s cs out) k
         lists-are (v, e) = record {
@@ -187,34 +185,34 @@ module _ (s cs out : List ℕ) where
 -- 12 is no refusal of shorten's
 pub shorten-not-12 : (s cs out : List ℕ) → shortenAnswer s cs out ≢ L.Refused 12
 shorten-not-12 s cs out h =
-    let c = shortens (joints s) (squareOf s) cs .refusal in
+    let c = shortensBy (joints s) (squareOf s) cs .refusal in
     let e : firstFault (sheetFault s ∷ (c ∷ [])) ≡ 12
-    = sym (counts-number (sheetFault s) (shortens (joints s) (squareOf s) cs)) ∙ shorten-refuses s cs out .by-choice 12 (omega arith) .0 h .1 in
+    = sym (counts-number (sheetFault s) (shortensBy (joints s) (squareOf s) cs)) ∙ shorten-refuses s cs out .by-choice 12 (omega arith) .0 h .1 in
     go (sheetFault s) refl e
   where
-    go : (f : ℕ) → sheetFault s ≡ f → firstFault (f ∷ (shortens (joints s) (squareOf s) cs .refusal ∷ [])) ≡ 12 → ⊥
+    go : (f : ℕ) → sheetFault s ≡ f → firstFault (f ∷ (shortensBy (joints s) (squareOf s) cs .refusal ∷ [])) ≡ 12 → ⊥
     go zero z e =
         not-twelve (joints s) (squareOf s) cs (sym (fault-passes 0 _ refl ∙ last-fault _) ∙ e)
     go (suc k) z e = let i : suc k ≡ 12 = sym (fault-stops (suc k) _ (λ x. omega arith)) ∙ e in omega (arith, sheet-most s)
 
--- CHOICES left off earlier
-pub shorten-beginning : (s cs ds out : List ℕ) → shortenedNumber (shortenAnswer s (cs ++ ds) out) ≡ 0 → shortenedNumber (shortenAnswer s cs out) ≡ 0
-shorten-beginning s cs ds out h =
+-- RECORDS left off earlier
+pub shorten-beginning : (s cs ds out : List ℕ) → isOdd (length cs) ≡ false → shortenedNumber (shortenAnswer s (cs ++ ds) out) ≡ 0 → shortenedNumber (shortenAnswer s cs out) ≡ 0
+shorten-beginning s cs ds out even h =
     let r = shorten-ran s (cs ++ ds) out (shorten-unrefused s (cs ++ ds) out h) in
-    let z = refusals false (joints s) (squareOf s) cs .beginning ds (r .2) in
+    let z = record-refusals false (joints s) (squareOf s) cs .beginning ds even (r .2) in
     shortened-number _ (endsOn s cs) (entriesOn s cs) ∙ all-pass (sheetFault s) (length out) (2 + 3 * rankCount s) _ (r .0) (r .1) z
 
 -- TWO CALLS that refuse nothing
 same-none-one : (s cs ds : List ℕ) (f : sheetFault s ≡ 0) → Unrefused s cs → Unrefused s ds → endsOn s cs ≡ NoneOne → endsOn s ds ≡ NoneOne
 same-none-one s cs ds f y z e =
-    let d = demands s f in
+    let d = record-demands s f in
     let u = d .no-choices .0 in
     d .shorten-none ds [] z u .1 (d .shorten-none cs [] y u .0 e)
 
 same-listing : (s cs ds : List ℕ) → sheetFault s ≡ 0 → Unrefused s cs → Unrefused s ds
     → listedAs (endsOn s cs) (entriesOn s cs) ≡ listedAs (endsOn s ds) (entriesOn s ds)
 same-listing s cs ds f y z =
-    let d = demands s f in
+    let d = record-demands s f in
     case (d .shorten-says cs y)
     (λ e. rw (e, same-none-one s cs ds f y z e) refl)
     (λ e.
@@ -245,7 +243,7 @@ module _ (s cs ds out out′ : List ℕ) where
       let q = shorten-ran s ds out′ (shorten-unrefused s ds out′ (ap shortenedNumber g)) in
       let v = shortened-lists (endsOn s cs) (entriesOn s cs) k (sym (shorten-ends s cs out y) ∙ h) in
       lists-over s cs out k h .first
-      ∙ demands s (p .0) .same-lists cs ds (p .2) (q .2) (λ i. one-paired i (v .0))
+      ∙ record-demands s (p .0) .same-lists cs ds (p .2) (q .2) (λ i. one-paired i (v .0))
       ∙ sym (lists-over s ds out′ k g .first)
 
   -- none in phase one
@@ -256,7 +254,7 @@ module _ (s cs ds out out′ : List ℕ) where
       let z = settle-unrefused s ds out′ g in
       let p = shorten-ran s cs out y in
       let q = settle-ran s ds out′ z in
-      let d = demands s (p .0) in
+      let d = record-demands s (p .0) in
       let a = shorten-ends s cs out y in
       let b = settle-ends s ds out′ z in
       let n = none-one-only (endsOn s cs) (entriesOn s cs) (d .shorten-says cs (p .2)) in

@@ -15,8 +15,10 @@ use Rattle.blocking.specs.Answers.{offerOf}
 use Rattle.roommates.specs.Lists.{bestBand, worstBand, firstOn, strikeIf}
 use Rattle.roommates.specs.PhaseOne.{listWaits, proposed, proposeAll, receiveAll, step, runOut, someEmptied}
 use Rattle.roommates.specs.PhaseTwo.{trial, asideBelow, noneEmptied, cutAt}
-use Rattle.roommates.specs.Moves.{inTwo, endOne, inOne, move, ruled, moves, concluded, worked}
+use Rattle.roommates.specs.Moves.{inTwo, endOne, inOne, move, ruled, concluded}
 use Rattle.roommates.specs.Left.{partnerOn, pairingOf, entry, listBytes}
+use Rattle.records.specs.Records.{recordsOf, stepped, markSet, returnedTo, acts, follows, workedBy}
+use Rattle.records.specs.Standing.{stepBytes}
 use Rattle.promises.specs.Rows.{isIn, bandFrom, entriesOnward, sheetOf, sheet-g, AllHold, rows}
 
 -- the bytes of row g's sheet
@@ -37,7 +39,8 @@ unfolding isIn bandFrom entriesOnward sheetOf anyBelow allBelow countBelow sumBe
     entryFault only sheetFaults sheetFault placed isPaired isPlaced isMatching
     pairedJoints aloneCount welcomes isApart blocks blocker blockingPair isSuperStable offerOf bestBand
     worstBand firstOn strikeIf listWaits proposed proposeAll receiveAll step runOut someEmptied trial
-    asideBelow noneEmptied cutAt inTwo endOne inOne move ruled moves concluded worked partnerOn pairingOf entry listBytes
+    asideBelow noneEmptied cutAt inTwo endOne inOne move ruled concluded stepBytes recordsOf stepped
+    markSet returnedTo acts follows workedBy partnerOn pairingOf entry listBytes
 starred =
     (refl, refl) & (refl, refl) & (refl, refl)
     & (refl, refl) & (refl, refl) & (refl, refl)
@@ -48,6 +51,10 @@ starred =
     & (refl, refl) & (refl, refl) & (refl, refl)
     & refl & refl & refl & refl
     & refl & refl & refl & refl
+    & (refl, refl) & refl & (refl, refl) & refl & (refl, refl)
+    & (refl, refl) & refl & refl & (refl, refl)
+    & (refl, refl) & (refl, refl) & (refl, refl) & (refl, refl)
+    & (refl, refl) & (refl, refl) & (refl, refl) & refl & refl & refl & (refl, refl)
     & (refl, refl) & (refl, refl) & (refl, refl)
     & refl & refl & refl & refl
     & record {}

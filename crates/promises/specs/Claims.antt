@@ -19,10 +19,11 @@ use Rattle.blocking.specs.Blocking.{isSuperStable}
 use Rattle.matching.specs.Plain.{Matching}
 use Rattle.blocking.specs.Plain.{SuperStable, LowestBlocking}
 use Rattle.roommates.specs.PhaseOne.{Work}
-use Rattle.roommates.specs.Moves.{worked}
 use Rattle.roommates.specs.Runs.{OneEnded, Arrived}
 use Rattle.roommates.specs.Histories.{proposalsIn, stepsTo, cutsTo}
-use Rattle.roommates.specs.Claims.{RefusedBy}
+use Rattle.records.specs.Records.{recordsOf, isOdd, workedBy}
+use Rattle.records.specs.Standing.{standing, stepBytes}
+use Rattle.records.specs.Claims.{RecordRefused, BytesRefused}
 use Rattle.relisting.specs.Written.{left, bytesOf, countBytes, without}
 use Rattle.relisting.specs.Claims.{SheetWith}
 use Rattle.calls.specs.Checks.{checkFaults, checkOf}
@@ -31,7 +32,8 @@ use Rattle.calls.specs.declared.Phase.the-variants as P
 use Rattle.calls.specs.declared.End.the-variants as E
 use Rattle.calls.specs.declared.Settled.the-variants as S
 use Rattle.calls.specs.declared.Shortened.the-variants as L
-use Rattle.calls.specs.Calls.{settledNumber, shortenedNumber, settleCall, settleAnswer, settleBytes, shortenCall, shortenAnswer, shortenBytes, countsOf}
+use Rattle.calls.specs.Calls.{settledNumber, shortenedNumber, settleCall, settleAnswer, settleBytes, shortenCall, shortenAnswer, shortenBytes}
+use Rattle.calls.specs.Calls.{counts, countsOf}
 
 -- m is a super-stable matching of the sheet s
 abbrev pub Super : List ℕ → List ℕ → Type 0
@@ -68,14 +70,14 @@ pub record ListsAre (s before after : List ℕ) (k : ℕ) : Type 0 where
 
 -- The counts of an accepted sheet's working: the joints that its steps reached, and its cuts, one that ends in none included.
 pub record CountsAre (whole : Bool) (s cs : List ℕ) : Type 0 where
-  pub arrived : Arrived whole (joints s) (squareOf s) (worked whole (joints s) (squareOf s) cs .work-is)
+  pub arrived : Arrived whole (joints s) (squareOf s) (workedBy whole (joints s) (squareOf s) cs .work-is)
   pub proposals-are : countsOf whole s cs .proposals ≡ proposalsIn (stepsTo arrived .1)
   pub cuts-are : countsOf whole s cs .cuts ≡ cutsTo arrived
 
 -- When a call refuses, number by number and both ways. The sheet's own refusal is f (0 for none), `choice` is the one that the counts name beside the working,
 -- and `need` bytes are due in a buffer of `room`.
 pub record Refuses (f choice need room : ℕ) (Refused : ℕ → Type 0) : Type 0 where
-  pub numbers : (k : ℕ) → Refused k → ((1 ≤ k) × (k ≤ 6)) ⊎ (((8 ≤ k) × (k ≤ 9)) ⊎ ((11 ≤ k) × (k ≤ 13)))
+  pub numbers : (k : ℕ) → Refused k → ((1 ≤ k) × (k ≤ 6)) ⊎ (((8 ≤ k) × (k ≤ 9)) ⊎ ((11 ≤ k) × (k ≤ 15)))
   pub by-sheet : (k : ℕ) → 1 ≤ k → k ≤ 8 → Refused k ↔ (f ≡ k)
   pub by-buffer : Refused 9 ↔ ((f ≡ 0) × (room < need))
   pub by-choice : (k : ℕ) → 11 ≤ k → Refused k ↔ ((need ≤ room) × (choice ≡ k))
@@ -109,12 +111,12 @@ pub record CallsKeep (s : List ℕ) : Type 0 where
   -- shorten says none exactly where settle says none in phase one
   pub same-none : (cs ds out out′ : List ℕ) → shortenedNumber (shortenAnswer s cs out) ≡ 0 → settledNumber (settleAnswer s ds out′) ≡ 0
       → (shortenAnswer s cs out ≡ L.None) ↔ (settleAnswer s ds out′ ≡ S.Ended (E.None P.One))
-  -- a beginning of choices within the rules is within them
-  pub settle-beginning : (cs ds out : List ℕ) → settledNumber (settleAnswer s (cs ++ ds) out) ≡ 0 → settledNumber (settleAnswer s cs out) ≡ 0
-  pub shorten-beginning : (cs ds out : List ℕ) → shortenedNumber (shortenAnswer s (cs ++ ds) out) ≡ 0 → shortenedNumber (shortenAnswer s cs out) ≡ 0
-  -- 11, 12 and 13: some choice, after the ones before it were made, may not be chosen, for the reason that the number says
+  -- left off after any record, an even number of bytes: a beginning of records within the rules is within them
+  pub settle-beginning : (cs ds out : List ℕ) → isOdd (length cs) ≡ false → settledNumber (settleAnswer s (cs ++ ds) out) ≡ 0 → settledNumber (settleAnswer s cs out) ≡ 0
+  pub shorten-beginning : (cs ds out : List ℕ) → isOdd (length cs) ≡ false → shortenedNumber (shortenAnswer s (cs ++ ds) out) ≡ 0 → shortenedNumber (shortenAnswer s cs out) ≡ 0
+  -- 11 to 15: an odd number of bytes, or some record that may not come after the ones before it, for the reason that the number says
   pub choice-refused : (whole : Bool) (cs : List ℕ) (k : ℕ) → 11 ≤ k
-      → (countsOf whole s cs .number ≡ k) ↔ ((sheetFault s ≡ 0) × RefusedBy whole (joints s) (squareOf s) cs k)
+      → (countsOf whole s cs .number ≡ k) ↔ ((sheetFault s ≡ 0) × BytesRefused whole (joints s) (squareOf s) cs k)
   -- COUNTS, beside refused choices too: of settle's working (true) and of shorten's (false)
   pub counts-are : (whole : Bool) (cs : List ℕ) → sheetFault s ≡ 0 → CountsAre whole s cs
   pub few-proposals : (whole : Bool) (cs : List ℕ) → countsOf whole s cs .proposals ≤ joints s * joints s
@@ -126,6 +128,24 @@ pub record CallsKeep (s : List ℕ) : Type 0 where
   pub counts-small : (whole : Bool) (cs : List ℕ) → (countsOf whole s cs .proposals ≤ 16384) × (countsOf whole s cs .cuts ≤ 16384)
   -- without choices no accepted sheet is refused
   pub no-choices : (whole : Bool) → sheetFault s ≡ 0 → countsOf whole s [] .number ≡ 0
+
+-- MARKS AND RETURNS. The steps standing after the records cs, as records of kind 0.
+abbrev pub standingBytes : List ℕ → List ℕ
+standingBytes cs = stepBytes (standing (recordsOf cs))
+
+-- Where nothing is refused they alone get the same answer, write the same bytes and have the same counts.
+pub record Replayed (s cs : List ℕ) : Type 0 where
+  pub settle-replayed : (out : List ℕ) → settledNumber (settleAnswer s cs out) ≡ 0
+      → (settleAnswer s cs out ≡ settleAnswer s (standingBytes cs) out) × (settleBytes s cs out ≡ settleBytes s (standingBytes cs) out)
+  pub shorten-replayed : (out : List ℕ) → shortenedNumber (shortenAnswer s cs out) ≡ 0
+      → (shortenAnswer s cs out ≡ shortenAnswer s (standingBytes cs) out) × (shortenBytes s cs out ≡ shortenBytes s (standingBytes cs) out)
+  pub counts-replayed : (whole : Bool) → countsOf whole s cs .number ≡ 0 → countsOf whole s cs ≡ countsOf whole s (standingBytes cs)
+  -- beside a refused record the counts are of the steps then standing, which take a fresh working there
+  pub counts-beside : (whole : Bool) (k : ℕ) → sheetFault s ≡ 0 → isOdd (length cs) ≡ false
+      → (r : RecordRefused whole (joints s) (squareOf s) (recordsOf cs) k) → countsOf whole s cs ≡ counts k (r .there .proposals) (r .there .cuts)
+
+abbrev pub CallsReplayed : Type 0
+CallsReplayed = (s cs : List ℕ) → Replayed s cs
 
 -- CHECK, for every sheet s and offered pairing m.
 pub record CheckKeeps (s m : List ℕ) : Type 0 where

@@ -1,5 +1,5 @@
--- The starred rows of document 01, "Sheets to try", rows of the same sheets that call shorten and the counts, and rows of a sheet with an
--- entry that is not returned: for each call what it answers, and the buffer before and after settle and shorten.
+-- The starred rows of document 01, "Sheets to try", rows of the same sheets that call shorten and the counts, rows with marks and returns, and
+-- rows of a sheet with an entry that is not returned: for each call what it answers, and the buffer before and after settle and shorten.
 use mathlib.Core.Path.{_≡_}
 use mathlib.Core.Bool.{Bool, true, false, _||_, cond}
 use mathlib.Core.List.{List, [], _∷_, _++_}
@@ -9,6 +9,7 @@ use lib.ListN.{length, replicate}
 use Rattle.base.specs.Below.{joined}
 use Rattle.blocking.specs.declared.Checked.{Checked}
 use Rattle.blocking.specs.declared.Checked.the-variants as C
+use Rattle.records.specs.Standing.{stepBytes}
 use Rattle.calls.specs.Checks.{checkOf}
 use Rattle.calls.specs.declared.Phase.the-variants as P
 use Rattle.calls.specs.declared.End.the-variants as E
@@ -114,6 +115,19 @@ abbrev pub AllHold : List Row → Type 0
 AllHold [] = record {}
 AllHold (r ∷ rs) = Holds r × AllHold rs
 
+-- choices: joints one after another; a joint, a mark, a return
+abbrev pub steps : List ℕ → List ℕ
+steps cs = stepBytes cs
+
+abbrev pub step : ℕ → List ℕ
+step x = 0 ∷ x ∷ []
+
+abbrev pub mark : ℕ → List ℕ
+mark m = 1 ∷ m ∷ []
+
+abbrev pub back : ℕ → List ℕ
+back m = 2 ∷ m ∷ []
+
 -- a buffer of b bytes, before a call
 abbrev pub buffer : ℕ → List ℕ
 buffer b = replicate b 9
@@ -135,14 +149,14 @@ rows =
     ∷ settle-row sheet-f [] (buffer 6) (S.Ended (E.None P.Two)) (buffer 6)
     -- g, h, i
     ∷ settle-row sheet-g [] (buffer 6) (S.Ended (E.Paired 2)) (3 ∷ 2 ∷ 1 ∷ 0 ∷ 9 ∷ 9 ∷ [])
-    ∷ settle-row sheet-g (0 ∷ 1 ∷ 2 ∷ 3 ∷ 1 ∷ []) (buffer 6) (S.Ended (E.Paired 2)) (1 ∷ 0 ∷ 3 ∷ 2 ∷ 9 ∷ 9 ∷ [])
+    ∷ settle-row sheet-g (steps (0 ∷ 1 ∷ 2 ∷ 3 ∷ 1 ∷ [])) (buffer 6) (S.Ended (E.Paired 2)) (1 ∷ 0 ∷ 3 ∷ 2 ∷ 9 ∷ 9 ∷ [])
     ∷ settle-row sheet-i [] (buffer 6) (S.Ended (E.Paired 2)) (1 ∷ 0 ∷ 3 ∷ 2 ∷ 9 ∷ 9 ∷ [])
     -- j
     ∷ check-row sheet-g (1 ∷ 0 ∷ 255 ∷ 255 ∷ []) (C.Blocked 2)
     -- k, l, m
-    ∷ settle-row sheet-c (0 ∷ 1 ∷ 0 ∷ []) (buffer 4) (S.Refused 13) (buffer 4)
-    ∷ settle-row sheet-g (0 ∷ 0 ∷ []) (buffer 6) (S.Refused 11) (buffer 6)
-    ∷ settle-row sheet-f (0 ∷ 1 ∷ 2 ∷ 3 ∷ []) (buffer 6) (S.Refused 12) (buffer 6)
+    ∷ settle-row sheet-c (steps (0 ∷ 1 ∷ 0 ∷ [])) (buffer 4) (S.Refused 13) (buffer 4)
+    ∷ settle-row sheet-g (steps (0 ∷ 0 ∷ [])) (buffer 6) (S.Refused 11) (buffer 6)
+    ∷ settle-row sheet-f (steps (0 ∷ 1 ∷ 2 ∷ 3 ∷ [])) (buffer 6) (S.Refused 12) (buffer 6)
     -- shorten: g, where nothing is struck; f, where joint 3 goes; i, where the ties go; d, none; c and g, where the choice is past phase one
     ∷ shorten-row sheet-g [] (buffer 28) (L.Lists 8)
     (8 ∷ 0 ∷ entry 0 1 1 (entry 0 3 2 (entry 1 0 2 (entry 1 2 1 (entry 2 1 2 (entry 2 3 1 (entry 3 0 1 (entry 3 2 2 (buffer 2)))))))))
@@ -150,17 +164,43 @@ rows =
     (6 ∷ 0 ∷ entry 0 1 1 (entry 0 2 2 (entry 1 0 2 (entry 1 2 1 (entry 2 0 1 (entry 2 1 2 (buffer 20)))))))
     ∷ shorten-row sheet-i [] (buffer 40) (L.Lists 4) (4 ∷ 0 ∷ entry 0 1 1 (entry 1 0 1 (entry 2 3 1 (entry 3 2 1 (buffer 26)))))
     ∷ shorten-row sheet-d [] (buffer 22) L.None (buffer 22)
-    ∷ shorten-row sheet-c (0 ∷ 1 ∷ 0 ∷ []) (buffer 10) (L.Refused 13) (buffer 10)
-    ∷ shorten-row sheet-g (0 ∷ 1 ∷ 2 ∷ 3 ∷ 0 ∷ []) (buffer 28) (L.Refused 13) (buffer 28)
+    ∷ shorten-row sheet-c (steps (0 ∷ 1 ∷ 0 ∷ [])) (buffer 10) (L.Refused 13) (buffer 10)
+    ∷ shorten-row sheet-g (steps (0 ∷ 1 ∷ 2 ∷ 3 ∷ 0 ∷ [])) (buffer 28) (L.Refused 13) (buffer 28)
     -- the counts: d, two steps of two proposals each; f, a cut that ends in none; g, settle's and shorten's; beside 11, 12 and 13
     ∷ counts-row true sheet-d [] 0 4 0
     ∷ counts-row true sheet-f [] 0 3 1
     ∷ counts-row true sheet-g [] 0 4 1
     ∷ counts-row false sheet-g [] 0 4 0
-    ∷ counts-row true sheet-g (0 ∷ 0 ∷ []) 11 1 0
-    ∷ counts-row true sheet-f (0 ∷ 1 ∷ 2 ∷ 3 ∷ []) 12 3 0
-    ∷ counts-row true sheet-d (0 ∷ 1 ∷ 0 ∷ []) 13 4 0
-    ∷ counts-row true sheet-f (0 ∷ 1 ∷ 2 ∷ 0 ∷ 0 ∷ []) 13 3 1
+    ∷ counts-row true sheet-g (steps (0 ∷ 0 ∷ [])) 11 1 0
+    ∷ counts-row true sheet-f (steps (0 ∷ 1 ∷ 2 ∷ 3 ∷ [])) 12 3 0
+    ∷ counts-row true sheet-d (steps (0 ∷ 1 ∷ 0 ∷ [])) 13 4 0
+    ∷ counts-row true sheet-f (steps (0 ∷ 1 ∷ 2 ∷ 0 ∷ 0 ∷ [])) 13 3 1
+    -- marks. A return after the cut at 0 of row g, then one at 1: the other pairing, that of row h, and one cut. A mark set again later; a
+    -- mark set since, which stays set; who stood is restored with the lists
+    ∷ settle-row sheet-g (steps (0 ∷ 1 ∷ 2 ∷ 3 ∷ []) ++ mark 0 ++ step 0 ++ back 0 ++ step 1) (buffer 6) (S.Ended (E.Paired 2)) (1 ∷ 0 ∷ 3 ∷ 2 ∷ 9 ∷ 9 ∷ [])
+    ∷ counts-row true sheet-g (steps (0 ∷ 1 ∷ 2 ∷ 3 ∷ []) ++ mark 0 ++ step 0 ++ back 0 ++ step 1) 0 4 1
+    ∷ settle-row sheet-g (mark 0 ++ steps (0 ∷ 1 ∷ 2 ∷ 3 ∷ []) ++ mark 0 ++ step 0 ++ back 0 ++ step 1) (buffer 6) (S.Ended (E.Paired 2))
+    (1 ∷ 0 ∷ 3 ∷ 2 ∷ 9 ∷ 9 ∷ [])
+    ∷ counts-row true sheet-g (mark 0 ++ step 0 ++ mark 1 ++ back 0 ++ back 1 ++ step 0) 11 1 0
+    ∷ settle-row sheet-g (mark 0 ++ step 0 ++ back 0 ++ step 0) (buffer 6) (S.Ended (E.Paired 2)) (3 ∷ 2 ∷ 1 ∷ 0 ∷ 9 ∷ 9 ∷ [])
+    -- a return from a working that has ended, with a pairing or with none, and steps after it; the counts are of the steps standing
+    ∷ settle-row sheet-c (mark 7 ++ steps (0 ∷ 1 ∷ []) ++ back 7 ++ steps (1 ∷ 0 ∷ [])) (buffer 4) (S.Ended (E.Paired 1)) (1 ∷ 0 ∷ 9 ∷ 9 ∷ [])
+    ∷ counts-row true sheet-c (mark 7 ++ steps (0 ∷ 1 ∷ []) ++ back 7 ++ step 9) 11 0 0
+    ∷ counts-row true sheet-f (steps (0 ∷ 1 ∷ 2 ∷ []) ++ mark 0 ++ step 0 ++ back 0 ++ step 1) 0 3 1
+    ∷ shorten-row sheet-c (mark 0 ++ steps (0 ∷ 1 ∷ []) ++ back 0 ++ step 1) (buffer 10) (L.Lists 2) (2 ∷ 0 ∷ entry 0 1 1 (entry 1 0 1 (buffer 2)))
+    -- after the end: a mark and a return may come, a step gets 13; a kind or a mark that is none is met before 13
+    ∷ settle-row sheet-c (steps (0 ∷ 1 ∷ []) ++ mark 0 ++ back 0) (buffer 4) (S.Ended (E.Paired 1)) (1 ∷ 0 ∷ 9 ∷ 9 ∷ [])
+    ∷ settle-row sheet-c (steps (0 ∷ 1 ∷ []) ++ mark 0 ++ step 0) (buffer 4) (S.Refused 13) (buffer 4)
+    ∷ settle-row sheet-c (steps (0 ∷ 1 ∷ []) ++ (3 ∷ 0 ∷ [])) (buffer 4) (S.Refused 14) (buffer 4)
+    ∷ settle-row sheet-c (steps (0 ∷ 1 ∷ []) ++ mark 8) (buffer 4) (S.Refused 15) (buffer 4)
+    -- 14: an odd number of bytes, before any record but after 9; a kind above 2, as met. 15: a mark above 7, a return to a mark not set
+    ∷ settle-row sheet-c (step 9 ++ (0 ∷ [])) (buffer 4) (S.Refused 14) (buffer 4)
+    ∷ settle-row sheet-c (step 9 ++ (0 ∷ [])) (buffer 1) (S.Refused 9) (buffer 1)
+    ∷ shorten-row sheet-c (0 ∷ []) (buffer 10) (L.Refused 14) (buffer 10)
+    ∷ counts-row true sheet-c (step 0 ++ (0 ∷ [])) 14 0 0
+    ∷ counts-row true sheet-c (step 0 ++ (3 ∷ 0 ∷ [])) 14 1 0
+    ∷ counts-row true sheet-c (step 0 ++ mark 3 ++ back 4) 15 1 0
+    ∷ shorten-row sheet-c (mark 3 ++ back 8) (buffer 10) (L.Refused 15) (buffer 10)
     -- the one-sided entry: nobody proposes by it, it is not written, and its pair is not offered and does not block; 9 still goes by it
     ∷ settle-row sheet-one-sided [] (buffer 5) (S.Ended (E.Paired 1)) (1 ∷ 0 ∷ 255 ∷ 9 ∷ 9 ∷ [])
     ∷ shorten-row sheet-one-sided [] (buffer 13) (L.Lists 2) (2 ∷ 0 ∷ entry 0 1 2 (entry 1 0 1 (buffer 5)))

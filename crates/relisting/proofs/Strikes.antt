@@ -1,7 +1,6 @@
 -- Lists that have shrunk are lists with pairs struck; so are those of shorten's workings.
 use mathlib.Core.Path.{_≡_, _∙_}
 use mathlib.Core.Logic.{inl, inr}
-use mathlib.Core.Bool.{false}
 use Prim.Native.Nat.{ℕ, _<_}
 use native.Mathlib.Omega.{arith}
 use Rattle.base.proofs.Cases.{case, lt-ge}
@@ -10,7 +9,6 @@ use Rattle.sheet.proofs.PromiseKept.{accepted-square}
 use Rattle.roommates.specs.Lists.{Square}
 use Rattle.roommates.proofs.Basics.{Below}
 use Rattle.roommates.proofs.Sound.{Shrunk, promise-sound}
-use Rattle.roommates.proofs.Arrivals.{worked-arrives}
 use Rattle.roommates.proofs.WorkingsEnd.{arrived-shrunk}
 use Rattle.relisting.specs.Written.{PairsStruck}
 use Rattle.relisting.specs.Claims.{ShortenStrikes}
@@ -41,6 +39,4 @@ pairs-below {n} {t} {u} p r = record { kept = kept; both = both }
         case (r .places b a) (λ e. omega arith) (λ z. absurd (omega arith))
 
 pub shorten-strikes : ShortenStrikes
-shorten-strikes s cs h =
-    let p = accepted-square s h in
-    shrunk-pairs p (arrived-shrunk (promise-sound p) (worked-arrives {whole = false} cs))
+shorten-strikes s w h a = let p = accepted-square s h in shrunk-pairs p (arrived-shrunk (promise-sound p) a)

@@ -1,5 +1,6 @@
 -- What shorten writes: "the remaining entries in sheet form, count first, bands as in the sheet".
 use mathlib.Core.Path.{_≡_}
+use mathlib.Core.Bool.{false}
 use mathlib.Core.List.{List, _++_}
 use Prim.Native.Nat.{ℕ, _<_}
 use lib.ListN.{length}
@@ -10,13 +11,14 @@ use Rattle.sheet.specs.Format.{joints, rankCount, labelOf, entriesOf}
 use Rattle.sheet.specs.Refusals.{sheetFault}
 use Rattle.sheet.specs.Square.{squareOf}
 use Rattle.roommates.specs.Lists.{Square}
-use Rattle.roommates.specs.Moves.{shortens}
+use Rattle.roommates.specs.PhaseOne.{Work}
+use Rattle.roommates.specs.Runs.{Arrived}
 use Rattle.roommates.specs.Left.{entryCount, listBytes}
 use Rattle.relisting.specs.Written.{PairsStruck, left, bytesOf, countBytes, relisted, without}
 
--- shorten's lists are the sheet's with some pairs struck, whatever the choices
+-- the lists of each of shorten's workings are the sheet's with some pairs struck, however it arrived
 abbrev pub ShortenStrikes : Type 0
-ShortenStrikes = (s cs : List ℕ) → sheetFault s ≡ 0 → PairsStruck (squareOf s) (shortens (joints s) (squareOf s) cs .work-is .lists)
+ShortenStrikes = (s : List ℕ) (w : Work) → sheetFault s ≡ 0 → Arrived false (joints s) (squareOf s) w → PairsStruck (squareOf s) (w .lists)
 
 -- The entries written are those of the sheet's entries whose pairs are not struck, with the sheet's bands and in the sheet's order, after their number.
 abbrev pub WrittenEntries : Type 0

@@ -15,7 +15,7 @@ use Rattle.roommates.specs.declared.Stage.the-variants.{Proposing, Cutti
 use Rattle.roommates.specs.Lists.{Square}
 use Rattle.roommates.specs.PhaseOne.{Work, fresh, waits, step, lowestWaiting, someEmptied}
 use Rattle.roommates.specs.PhaseTwo.{Cut, kept, neither, cutAt, longer, lowestLonger}
-use Rattle.roommates.specs.Moves.{staged, inTwo, endOne, inOne, begun, Outcome, outcome, afterCut, move, ruled, moves, concluded, turns, worked}
+use Rattle.roommates.specs.Moves.{staged, inTwo, endOne, inOne, begun, Outcome, outcome, afterCut, move, ruled, moves, concluded, turns, carriedOut, worked}
 use Rattle.roommates.specs.Runs.{Run, stop, then, OneEnded, Cuts, uncut, cut-then, cutsMade, ByCuts, Arrived, in-one, none-in-one, lists-left, in-two, none-in-two, all-short}
 use Rattle.roommates.proofs.Running.{run-cuts}
 use Rattle.roommates.proofs.Stages.{Over}
@@ -196,9 +196,11 @@ module _ {whole : Bool} {n : ℕ} {t : Square} where
   pub begun-arrives : Arrived whole n t (begun whole n t)
   begun-arrives = one-arrives refl stop
 
+  -- whatever the choices left, and however they were given
+  pub carried-arrives : (o : Outcome) → Arrived whole n t (o .work-is) → Arrived whole n t (carriedOut whole n o .work-is)
+  carried-arrives o a =
+      by-test (λ (o : Outcome). Arrived whole n t (o .work-is)) (eqb (o .refusal) 0) (λ e. concluded-arrives (turns n) a) (λ e. a)
+
   pub worked-arrives : (cs : List ℕ) → Arrived whole n t (worked whole n t cs .work-is)
   unfolding worked
-  worked-arrives cs =
-      by-test (λ (o : Outcome). Arrived whole n t (o .work-is)) (eqb (moves whole n (begun whole n t) cs .refusal) 0)
-      (λ e. concluded-arrives (turns n) (moves-arrive cs begun-arrives))
-      (λ e. moves-arrive cs begun-arrives)
+  worked-arrives cs = carried-arrives (moves whole n (begun whole n t) cs) (moves-arrive cs begun-arrives)

@@ -13,7 +13,7 @@ use Rattle.roommates.specs.declared.Stage.the-variants.{Proposing, Cutti
 use Rattle.roommates.specs.Lists.{Square}
 use Rattle.roommates.specs.PhaseOne.{Work, waits, step}
 use Rattle.roommates.specs.PhaseTwo.{cutAt, longer}
-use Rattle.roommates.specs.Moves.{inOne, begun, Outcome, outcome, afterCut, move, moves, worked}
+use Rattle.roommates.specs.Moves.{inOne, begun, Outcome, outcome, afterCut, move, moves, carriedOut, worked}
 use Rattle.roommates.specs.Runs.{Arrived, in-one, none-in-one, lists-left, in-two, none-in-two, all-short}
 use Rattle.roommates.specs.Claims.{Made, none-made, step-made, cut-made, Unfit, not-waiting, not-longer, ended-before, RefusedBy, Refusals}
 use Rattle.roommates.proofs.Sound.{promise-sound}
@@ -33,13 +33,13 @@ misfit x n b h = case h (λ l. rw (le-ltb x n l) refl) (λ e. case (lt-ge x n) (
 
 module _ (whole : Bool) (n : ℕ) where
   -- one choice: it is made, or may not be
-  data Tried (w : Work) (x : ℕ) : Type 0 where
+  pub data Tried (w : Work) (x : ℕ) : Type 0 where
     fit-step : w .stage ≡ Proposing → x < n → waits n w x ≡ true → move whole n w x ≡ outcome 0 (inOne whole n (step n w x)) → Tried w x
     fit-cut : w .stage ≡ Cutting → x < n → longer n (w .lists) x ≡ true
         → move whole n w x ≡ outcome 0 (afterCut n w (cutAt n (w .aside) (w .lists) x)) → Tried w x
     unfit : (k : ℕ) → k ≢ 0 → Unfit n w x k → move whole n w x ≡ outcome k w → Tried w x
 
-  tried : (w : Work) (x : ℕ) → Tried w x
+  pub tried : (w : Work) (x : ℕ) → Tried w x
   tried w x =
       case (each-stage (w .stage))
       (λ h. case (fits x n (waits n w x))
@@ -51,13 +51,13 @@ module _ (whole : Bool) (n : ℕ) where
       (λ f. unfit 12 (λ z. omega arith) (not-longer h (f .0)) (move-two whole n w x h ∙ rw (f .1) refl)))
       (λ h. unfit 13 (λ z. omega arith) (ended-before h) (move-over whole n w x h)))
 
-  unfit-move : {w : Work} {x k : ℕ} → Unfit n w x k → move whole n w x ≡ outcome k w
+  pub unfit-move : {w : Work} {x k : ℕ} → Unfit n w x k → move whole n w x ≡ outcome k w
   unfit-move {w} {x} (not-waiting h e) = move-one whole n w x h ∙ rw (misfit x n (waits n w x) e) refl
   unfit-move {w} {x} (not-longer h e) = move-two whole n w x h ∙ rw (misfit x n (longer n (w .lists) x) e) refl
   unfit-move {w} {x} (ended-before h) = move-over whole n w x h
 
   -- the first choice of a list
-  moves-on : (w : Work) (x : ℕ) {v : Work} (cs : List ℕ) → move whole n w x ≡ outcome 0 v → moves whole n w (x ∷ cs) ≡ moves whole n v cs
+  pub moves-on : (w : Work) (x : ℕ) {v : Work} (cs : List ℕ) → move whole n w x ≡ outcome 0 v → moves whole n w (x ∷ cs) ≡ moves whole n v cs
   unfolding moves
   moves-on w x cs e = rw e refl
 
@@ -94,19 +94,22 @@ module _ (whole : Bool) (n : ℕ) where
       by-choice (fit-cut h l e m) rest = rw (moves-on w x cs m) (one-more x (λ ds u made. cut-made x h l e made) (rest _))
       by-choice (unfit k d u m) rest = rw (moves-stop w x cs d m) (stopped [] x cs refl none-made d u)
 
+  -- what the rule does after the choices is never refused
+  pub carried-refusal : (o : Outcome) → carriedOut whole n o .refusal ≡ o .refusal
+  carried-refusal o = case (both-ways (eqb (o .refusal) 0)) (λ e. rw e (sym (eqb-true _ _ e))) (λ e. rw e refl)
+
+  -- a refused choice leaves the working where it stood
+  pub carried-stopped : (o : Outcome) → o .refusal ≢ 0 → carriedOut whole n o ≡ o
+  carried-stopped o d = rw (ne-eqb (o .refusal) 0 d) refl
+
   module _ (t : Square) (cs : List ℕ) where
-    -- what the rule does then is never refused
     pub worked-refusal : worked whole n t cs .refusal ≡ moves whole n (begun whole n t) cs .refusal
     unfolding worked
-    worked-refusal =
-        case (both-ways (eqb (moves whole n (begun whole n t) cs .refusal) 0))
-        (λ e. rw e (sym (eqb-true _ _ e)))
-        (λ e. rw e refl)
+    worked-refusal = carried-refusal (moves whole n (begun whole n t) cs)
 
-    -- a refused choice leaves the working where it stood
     worked-stopped : worked whole n t cs .refusal ≢ 0 → worked whole n t cs ≡ moves whole n (begun whole n t) cs
     unfolding worked
-    worked-stopped d = rw (ne-eqb _ _ (λ z. d (worked-refusal ∙ z))) refl
+    worked-stopped d = carried-stopped (moves whole n (begun whole n t) cs) (λ z. d (worked-refusal ∙ z))
 
     came-refused : {k : ℕ} → k ≢ 0 → (o : Outcome) → o .refusal ≡ k → Came (begun whole n t) cs o → RefusedBy whole n t cs k
     came-refused d o e (all-made z m) = absurd (d (sym e ∙ z))
@@ -136,18 +139,18 @@ module _ (whole : Bool) (n : ℕ) where
   came-stage o d (stopped earlier x later e m nz u) = unfit-stage u
 
 -- the number of a refused choice is 11, 12 or 13
-unfit-number : {n : ℕ} {w : Work} {x k : ℕ} → Unfit n w x k → (11 ≤ k) × (k ≤ 13)
+pub unfit-number : {n : ℕ} {w : Work} {x k : ℕ} → Unfit n w x k → (11 ≤ k) × (k ≤ 13)
 unfit-number (not-waiting h e) = (omega arith, omega arith)
 unfit-number (not-longer h e) = (omega arith, omega arith)
 unfit-number (ended-before h) = (omega arith, omega arith)
 
 -- .. and shorten's working, which never stands in phase two, has no 12
-shorten-unfit : {n : ℕ} {w : Work} {x k : ℕ} → Unfit n w x k → w .stage ≢ Cutting → k ≢ 12
+pub shorten-unfit : {n : ℕ} {w : Work} {x k : ℕ} → Unfit n w x k → w .stage ≢ Cutting → k ≢ 12
 shorten-unfit (not-waiting h e) d = λ z. omega arith
 shorten-unfit (not-longer h e) d = λ z. d h
 shorten-unfit (ended-before h) d = λ z. omega arith
 
-uncutting : {n : ℕ} {t : Square} {w : Work} → Arrived false n t w → w .stage ≢ Cutting
+pub uncutting : {n : ℕ} {t : Square} {w : Work} → Arrived false n t w → w .stage ≢ Cutting
 uncutting (in-one h r p l e) g = phases-differ h g
 uncutting (none-in-one v h e bad) g = two-goes-on g (inl (ap (λ u. u .stage) h))
 uncutting (lists-left wh v h e ok) g = two-goes-on g (inr (inr (ap (λ u. u .stage) h)))

@@ -13,7 +13,7 @@ use Rattle.base.proofs.Lowest.{lowest-passes, some-passes}
 use Rattle.roommates.specs.Lists.{Square, row, listLength}
 use Rattle.roommates.specs.PhaseOne.{Work, fresh, waits, step, lowestWaiting, someEmptied}
 use Rattle.roommates.specs.PhaseTwo.{Cut, kept, neither, cutAt, longer, lowestLonger}
-use Rattle.roommates.specs.Moves.{withCut, inTwo, endOne, inOne, begun, Outcome, outcome, afterCut, move, ruled, moves, concluded, turns, worked}
+use Rattle.roommates.specs.Moves.{withCut, inTwo, endOne, inOne, begun, Outcome, outcome, afterCut, move, ruled, moves, concluded, turns, carriedOut, worked}
 use Rattle.roommates.specs.Runs.{Run, OneEnded, Cuts, uncut, cut-then, cutsMade, ByCuts, Arrived, in-one, none-in-one, lists-left, in-two, none-in-two, all-short}
 use Rattle.roommates.specs.Histories.{TrialsPromise}
 use Rattle.roommates.specs.Left.{entryCount}
@@ -160,12 +160,13 @@ module _ (whole : Bool) (n : ℕ) where
     pub rule-ends : {w : Work} → Arrived whole n t w → Over (concluded (turns n) whole n w .stage)
     rule-ends a = ends (turns n) a (omega arith)
 
+    pub carried-ends : (o : Outcome) → Arrived whole n t (o .work-is) → carriedOut whole n o .refusal ≡ 0 → Over (carriedOut whole n o .work-is .stage)
+    carried-ends o a =
+        by-test (λ (o : Outcome). o .refusal ≡ 0 → Over (o .work-is .stage)) (eqb (o .refusal) 0) (λ e z. rule-ends a) (λ e z. absurd (eqb-false _ _ e z))
+
     pub worked-ends : (cs : List ℕ) → worked whole n t cs .refusal ≡ 0 → Over (worked whole n t cs .work-is .stage)
     unfolding worked
-    worked-ends cs =
-        by-test (λ (o : Outcome). o .refusal ≡ 0 → Over (o .work-is .stage)) (eqb (moves whole n (begun whole n t) cs .refusal) 0)
-        (λ e z. rule-ends (moves-arrive cs begun-arrives))
-        (λ e z. absurd (eqb-false _ _ e z))
+    worked-ends cs = carried-ends (moves whole n (begun whole n t) cs) (moves-arrive cs begun-arrives)
 
 pub trials-promise : TrialsPromise
 trials-promise n t promise cs v =

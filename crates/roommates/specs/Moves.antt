@@ -91,9 +91,13 @@ concluded (suc f) whole n w = concluded f whole n (move whole n w (ruled n w) .w
 abbrev pub turns : ℕ → ℕ
 turns n = suc (n * n + n * n)
 
+-- what choices leave, carried to the end by the rule's moves; a refusal ends it
+abbrev pub carriedOut : Bool → ℕ → Outcome → Outcome
+carriedOut whole n o = onward o (λ w. outcome 0 (concluded (turns n) whole n w))
+
 -- A WHOLE WORKING, settle's (`whole`) or shorten's: the choices' moves, then the rule's to the end.
 unfoldable pub worked : Bool → ℕ → Square → List ℕ → Outcome
-worked whole n t cs = onward (moves whole n (begun whole n t) cs) (λ w. outcome 0 (concluded (turns n) whole n w))
+worked whole n t cs = carriedOut whole n (moves whole n (begun whole n t) cs)
 
 abbrev pub settles : ℕ → Square → List ℕ → Outcome
 settles n t cs = worked true n t cs

@@ -1,5 +1,4 @@
 // What the library answers, in the form of the rules.
-use crate::Choices;
 use calls::End;
 use calls::Phase;
 use calls::Settled;
@@ -7,6 +6,7 @@ use calls::Shortened;
 use calls::counting::count_working;
 use calls::settling::settle;
 use calls::shortening::shorten;
+use replay::Choices;
 use rules::Answer;
 use rules::FILL;
 use samples::Sheet;

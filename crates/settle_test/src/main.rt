@@ -28,12 +28,6 @@ pub struct Case {
     pub stable: u32,
 }
 
-// Bytes of choices, and how many there are.
-pub struct Choices {
-    pub bytes: [u8; 64],
-    pub len: usize,
-}
-
 // From many ties to few, from lists that lean nowhere to lists that lean to the next joint.
 const WIDTHS: [u32; 4] = [2, 5, 11, 59];
 
@@ -118,8 +112,9 @@ sheets, with an entry that is not returned: # #\n\
 pairing, none phase 1, none phase 2: # # #\n\
 super-stable matchings, sheets with more than one: # #\n\
 proposals, cuts: # #\n\
-settle within the rules, refused 9, 11, 12, 13: # # # # #\n\
-shorten within the rules, refused 9, 11, 12, 13: # # # # #\n",
+steps, marks, returns, returns from an end: # # # #\n\
+settle within the rules, refused 9, 11 to 15: # # # # # # #\n\
+shorten within the rules, refused 9, 11 to 15: # # # # # # #\n",
         counts,
     );
 }

@@ -24,10 +24,19 @@ pub const PROPOSALS: usize = 10;
 
 pub const CUTS: usize = 11;
 
-// What the calls answer: within the rules, refused with 9, 11, 12, 13.
-pub const SETTLE: usize = 12;
+// Records of the lists that grow.
+pub const STEPS: usize = 12;
 
-pub const SHORTEN: usize = 17;
+pub const MARKS: usize = 13;
+
+pub const RETURNS: usize = 14;
+
+pub const RETURNS_FROM_END: usize = 15;
+
+// What the calls answer: within the rules, refused with 9, 11, 12, 13, 14, 15.
+pub const SETTLE: usize = 16;
+
+pub const SHORTEN: usize = 23;
 
 // The library beside the rules: its answer, its buffer, its counts.
 pub const ANSWER: u32 = 1;
@@ -48,13 +57,15 @@ pub const ROW_O: u32 = 7;
 
 // Where an answer is counted, after the place of those within the rules.
 fn slot(number: u32) -> usize
-    ensures { λ r. ⌜ r ≤ 4 ⌝ }
+    ensures { λ r. ⌜ r ≤ 6 ⌝ }
 {
     match number {
         9 => 1,
         11 => 2,
         12 => 3,
         13 => 4,
+        14 => 5,
+        15 => 6,
         _ => 0,
     }
 }

@@ -3,7 +3,7 @@ use crate::answers::call;
 use crate::answers::is_same;
 use crate::answers::number_of;
 use crate::places;
-use crate::trying::none;
+use replay::none;
 use rules::FILL;
 use samples::sheet_of;
 use tally::compare;

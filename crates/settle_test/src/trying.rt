@@ -1,56 +1,65 @@
 // Settle and shorten on one sheet, beside the rules.
 use crate::Case;
-use crate::Choices;
 use crate::answers::call;
 use crate::answers::is_counted;
 use crate::answers::is_same;
 use crate::places;
+use replay::Choices;
+use replay::after;
+use replay::is_refused;
+use replay::longer;
+use replay::none;
+use replay::odd;
+use replay::with_record;
 use rules::Answer;
 use rules::Work;
+use rules::fresh;
 use samples::Sheet;
 use samples::next;
+use tally::add;
 use tally::compare;
+ghost use Prim.Native.Nat.{_<_};
 
-// A list of choices, and the two workings after it.
+// A record, as the calls take it.
+struct Drawn {
+    kind: u8,
+    number: u8,
+}
+
+// A list of records, and the two workings after it.
 struct Walk {
     list: Choices,
     settle: Work,
     shorten: Work,
 }
 
-// No choices.
-pub fn none() -> Choices {
-    Choices {
-        bytes: [255u8; 64],
-        len: 0,
-    }
-}
-
-// The choices and one more.
-fn longer(list: Choices, c: u8) -> Choices {
-    let mut more = list;
-    let at = more.len;
-    if at < 64 {
-        more.bytes[at] = c;
-        more.len = at + 1;
-    }
-    more
-}
-
 fn start(sheet: Sheet) -> Walk {
     let bands = sheet.bands;
     Walk {
         list: none(),
-        settle: rules::fresh(sheet.n, bands, true),
-        shorten: rules::fresh(sheet.n, bands, false),
+        settle: fresh(sheet.n, bands, true),
+        shorten: fresh(sheet.n, bands, false),
     }
 }
 
-fn with(walk: Walk, c: u8) -> Walk {
+// A record more: the steps that then stand are replayed from the start.
+fn with(sheet: Sheet, walk: Walk, record: Drawn) -> Walk {
+    let first = start(sheet);
+    let list = with_record(walk.list, record.kind, record.number);
     Walk {
-        list: longer(walk.list, c),
-        settle: rules::chosen(walk.settle, c),
-        shorten: rules::chosen(walk.shorten, c),
+        list: list,
+        settle: after(first.settle, walk.settle, list),
+        shorten: after(first.shorten, walk.shorten, list),
+    }
+}
+
+// A byte more, which makes an odd number of them.
+fn with_byte(sheet: Sheet, walk: Walk, byte: u8) -> Walk {
+    let first = start(sheet);
+    Walk {
+        list: longer(walk.list, byte),
+        settle: odd(first.settle),
+        shorten: odd(first.shorten),
     }
 }
 
@@ -115,36 +124,109 @@ fn any_of(set: u64, x: u32) -> u8 {
     ((u64::trailing_zeros((set | (set << 8)) >> from) % 8 + from) % 8) as u8
 }
 
-// A list that grows by joints that are allowed until settle's working has ended. Each is tried, and with any byte after it.
+// Kinds of any record: of eight, three are steps, one sets a mark, two return and two are no kind.
+const KINDS: [u8; 8] = [0, 0, 0, 1, 2, 2, 3, 255];
+
+// Any record, with a joint or what is none, or a mark of 0 to 9.
+fn any_record(x: u32, n: usize) -> Drawn {
+    let kind = KINDS[(x % 65537 / 16 % 8) as usize];
+    let mark = (x % 65537 / 128 % 10) as u8;
+    let number = if kind == 0 { any_byte(x, n) } else { mark };
+    Drawn {
+        kind: kind,
+        number: number,
+    }
+}
+
+// The kind of a record that is meant to be within settle's rules: of eight, five are steps, two set a mark and one returns. Where nobody is
+// allowed to step, those return too.
+fn likely_kind(joints: u64, x: u32) -> u8 {
+    let pick = x % 8;
+    if pick == 0 {
+        return 2;
+    }
+    if pick < 3 {
+        return 1;
+    }
+    if joints == 0 { 2 } else { 0 }
+}
+
+// Such a record, with a joint that is allowed or a mark of 0 to 2.
+fn likely_record(joints: u64, x: u32) -> Drawn {
+    let kind = likely_kind(joints, x);
+    let mark = (x % 65537 / 8 % 3) as u8;
+    let number = if kind == 0 {
+        any_of(joints, x / 8)
+    } else {
+        mark
+    };
+    Drawn {
+        kind: kind,
+        number: number,
+    }
+}
+
+// What is counted of a record that takes settle's working w to v.
+fn count_record(sums: [u32; 40], kind: u8, w: Work, v: Work) -> [u32; 40] {
+    let ended = reference::one(99 < w.stage);
+    if is_refused(v) {
+        return sums;
+    }
+    match kind {
+        0 => add(sums, places::STEPS, 1),
+        1 => add(sums, places::MARKS, 1),
+        _ => add(
+            add(sums, places::RETURNS, 1),
+            places::RETURNS_FROM_END,
+            ended,
+        ),
+    }
+}
+
+// The list with its record more, unless settle refuses it.
+fn kept(walk: Walk, grown: Walk) -> Walk {
+    if is_refused(grown.settle) {
+        walk
+    } else {
+        grown
+    }
+}
+
+// A list that grows by records within settle's rules. Each is tried, and with any record in its place. A record that is refused is tried too,
+// and left out.
 fn try_grown(case: Case, counts: [u32; 40], seed: u32) -> [u32; 40] {
+    let sheet = case.sheet;
     let mut sums = counts;
-    let mut walk = start(case.sheet);
+    let mut walk = start(sheet);
     let mut x = seed;
     let mut i: u32 = 0;
-    while i < 64 {
+    while i < 20 {
         let y = next(x);
         x = next(y);
-        let one = try_walk(case, sums, walk);
-        sums = try_walk(case, one, with(walk, any_byte(y, case.sheet.n)));
-        let joints = rules::allowed(walk.settle);
-        if joints == 0 {
-            return sums;
-        }
-        walk = with(walk, any_of(joints, x));
+        let one = try_walk(case, sums, with(sheet, walk, any_record(y, sheet.n)));
+        let record = likely_record(rules::allowed(walk.settle), x);
+        let grown = with(sheet, walk, record);
+        let two = try_walk(case, one, grown);
+        sums = count_record(two, record.kind, walk.settle, grown.settle);
+        walk = kept(walk, grown);
         i += 1;
     }
     sums
 }
 
-// A list of one to four bytes, whatever they are.
+// A list of one to four records, whatever they are, and perhaps a byte more.
 fn try_drawn(case: Case, sums: [u32; 40], x: u32) -> [u32; 40] {
-    let mut walk = start(case.sheet);
+    let sheet = case.sheet;
+    let mut walk = start(sheet);
     let mut y = x;
     let mut i = 0;
     while i <= x % 4 {
         y = next(y);
-        walk = with(walk, any_byte(y, case.sheet.n));
+        walk = with(sheet, walk, any_record(y, sheet.n));
         i += 1;
+    }
+    if y % 4 == 0 {
+        return try_walk(case, sums, with_byte(sheet, walk, any_byte(y, sheet.n)));
     }
     try_walk(case, sums, walk)
 }
@@ -161,7 +243,7 @@ fn room_of(sheet: Sheet, whole: bool) -> usize {
     sheet.size - front
 }
 
-// Buffers as long as they must be, and a byte too short, which is refused before a choice is. Elsewhere they are longer.
+// Buffers as long as they must be, and a byte too short, which is refused before an odd number of bytes is. Elsewhere they are longer.
 fn try_rooms(case: Case, sums: [u32; 40], w: Work) -> [u32; 40] {
     let whole = w.whole;
     let room = room_of(case.sheet, whole);
@@ -172,11 +254,11 @@ fn try_rooms(case: Case, sums: [u32; 40], w: Work) -> [u32; 40] {
     }
     let mut refused = w;
     refused.stage = 9;
-    let short = call(case.sheet, longer(none(), 255), whole, room - 1);
+    let short = call(case.sheet, longer(none(), 0), whole, room - 1);
     compare_answer(case, one, whole, short, rules::answered(refused))
 }
 
-// Buffers, and lists of choices.
+// Buffers, and lists of records.
 pub fn try_calls(case: Case, sums: [u32; 40]) -> [u32; 40] {
     let walk = start(case.sheet);
     let x = next(case.seed);

@@ -1,15 +1,14 @@
--- One turn of the choices' loop and of the rule's: how they go on, and how they stop.
+-- One turn of the records' loop and of the rule's: how they go on, and how they stop.
 use mathlib.Core.Path.{_≡_, refl, sym, _∙_, ap, subst}
 use mathlib.Core.Bool.{Bool, true, false}
 use mathlib.Core.Logic.{_≢_, inl, inr}
-use mathlib.Core.List.{List}
-use Prim.Native.Nat.{ℕ, suc, _+_, _-_, _≤_, _<_}
+use mathlib.Core.List.{List, [], _∷_}
+use Prim.Native.Nat.{ℕ, suc, _+_, _*_, _-_, _%_, _≤_, _<_}
 use native.Mathlib.Omega.{arith}
-use native.Mathlib.Nat.{mul-le-mul}
 use native.Mathlib.Numerals.{add-one}
-use lib.ListN.{length, getD, drop, drop-of-length-le}
+use lib.ListN.{length, getD, drop, length-drop}
 use lib.Seq.{drop-cons}
-use borrow.Author.Tests.{ne-eqb}
+use borrow.Author.Tests.{ne-eqb, eq-eqb}
 use Rattle.base.proofs.Cases.{case}
 use Rattle.base.proofs.Tests.{never}
 use Rattle.sheet.specs.Square.{SquarePromise}
@@ -17,18 +16,22 @@ use Rattle.roommates.specs.declared.Stage.{Stage}
 use Rattle.roommates.specs.declared.Stage.the-variants.{Proposing, Cutting, NoneOne, NoneTwo, Paired}
 use Rattle.roommates.specs.Lists.{Square}
 use Rattle.roommates.specs.PhaseOne.{Work, phaseOne}
-use Rattle.roommates.specs.Moves.{inOne, begun, Outcome, outcome, move, ruled, moves, concluded, turns, worked}
+use Rattle.roommates.specs.Moves.{inOne, begun, Outcome, outcome, move, ruled, concluded, turns, carriedOut}
 use Rattle.roommates.specs.Runs.{Arrived}
 use Rattle.roommates.proofs.Sound.{promise-sound}
 use Rattle.roommates.proofs.Stages.{Over}
-use Rattle.roommates.proofs.EntryCounts.{entries-bound}
-use Rattle.roommates.proofs.Arrivals.{move-arrives, begun-arrives}
-use Rattle.roommates.proofs.WorkingsEnd.{arrived-few, rule-moves, stays}
+use Rattle.roommates.proofs.Arrivals.{begun-arrives}
+use Rattle.roommates.proofs.WorkingsEnd.{rule-moves, stays}
 use Rattle.roommates.proofs.RuleInOne.{phase-one-at-once, at-once-arrives}
+use Rattle.records.specs.declared.Record.{Record}
+use Rattle.records.specs.Records.{entry, recordsOf, acts, follows, started, isOdd, workedBy}
+use Rattle.records.specs.Records as R
 use Rattle.stages.specs.declared.Place.{Place}
-use Rattle.stages.specs.Places.{workAt, outcomeAt, Ruled, Stands}
-use Rattle.moves.specs.Moved.{Roomy}
-use Rattle.steering.specs.Lawful.{isOver, isProposing, Standing}
+use Rattle.stages.specs.Places.{workAt, outcomeAt, Stands}
+use Rattle.moves.specs.Standing.{Standing}
+use Rattle.marks.specs.declared.Marked.{Marked}
+use Rattle.marks.specs.Marks.{markedAt, actedAt, AllStand}
+use Rattle.steering.specs.Ends.{isOver, isProposing}
 
 over-said : (s : Stage) → isOver s ≡ true → Over s
 over-said Proposing h = absurd (never _ h refl)
@@ -54,47 +57,46 @@ rule-more : (whole : Bool) (n f : ℕ) (w : Work) → concluded (suc f) whole n 
 unfolding concluded
 rule-more whole n f w = refl
 
+-- THE RECORDS: the i-th, and those after it
+abbrev recordAt : List ℕ → ℕ → Record
+recordAt cs i = entry (getD cs (2 * i) 0) (getD cs (2 * i + 1) 0)
+
+records-from : (cs : List ℕ) (i : ℕ) → 2 * i + 1 < length cs → recordsOf (drop (2 * i) cs) ≡ recordAt cs i ∷ recordsOf (drop (2 * (i + 1)) cs)
+unfolding recordsOf
+records-from cs i l =
+    let next : 2 * (i + 1) ≡ suc (suc (2 * i)) = omega arith in
+    rw (drop-cons cs (2 * i) 0 (omega arith), drop-cons cs (suc (2 * i)) 0 (omega arith), next, add-one (2 * i)) refl
+
+-- the i-th record acts on s, and all that follow on what it leaves, which is h
+module _ (whole : Bool) (n : ℕ) (cs : List ℕ) (i : ℕ) (l : 2 * i + 1 < length cs) (s : R.Marked) (u : Square) (saved : List Square) (h : Marked)
+    (e : actedAt u saved h ≡ acts whole n s (recordAt cs i)) where
+  pub followed-on : h .place .refusal ≡ 0
+      → follows whole n (markedAt u saved h) (recordsOf (drop (2 * (i + 1)) cs)) ≡ follows whole n s (recordsOf (drop (2 * i) cs))
+  unfolding follows
+  followed-on z = rw (records-from cs i l, ← e, z) refl
+
+  pub followed-stops : h .place .refusal ≢ 0 → outcomeAt u (h .place) ≡ follows whole n s (recordsOf (drop (2 * i) cs))
+  unfolding follows
+  followed-stops d = rw (records-from cs i l, ← e, ne-eqb (h .place .refusal) 0 d) refl
+
+-- .. of the first working under another name
+pub from-first : (whole : Bool) (n : ℕ) {s s′ : R.Marked} (rs : List Record) → s ≡ s′ → {o : Outcome} → o ≡ follows whole n s rs → o ≡ follows whole n s′ rs
+from-first whole n rs e h = h ∙ ap (λ s. follows whole n s rs) e
+
+-- where no two bytes are left
+pub followed-all : {whole : Bool} {n : ℕ} {t : Square} {saved : List Square} {h : Marked} → AllStand whole n t saved h → (cs : List ℕ) (i : ℕ) → length cs ≤ 2 * i + 1
+    → outcomeAt t (h .place) ≡ follows whole n (markedAt t saved h) (recordsOf (drop (2 * i) cs))
+unfolding follows recordsOf
+followed-all {whole} {n} {t} {saved} {h} all cs i l =
+    let few : length (drop (2 * i) cs) ≤ 1 = omega (arith, length-drop (2 * i) cs) in
+    rw (no-records (drop (2 * i) cs) few, all .stands .unrefused) refl
+  where
+    no-records : (l : List ℕ) → length l ≤ 1 → recordsOf l ≡ []
+    no-records [] h = refl
+    no-records (k ∷ []) h = refl
+    no-records (k ∷ (x ∷ l)) h = absurd (omega arith)
+
 module _ {whole : Bool} {n : ℕ} {t : Square} {g : Place} (s : Standing whole n t g) where
-  pub few-joints : n ≤ 128
-  few-joints = s .promise .few-joints
-
-  pub roomy : Roomy g
-  roomy =
-      let few = arrived-few (promise-sound (s .promise)) (s .arrived) in
-      let few0 = few .0 in
-      let few1 = few .1 in
-      let all = entries-bound n (s .start) in
-      let most = mul-le-mul few-joints few-joints in
-      (omega arith, omega arith)
-
-  -- after a move that was not refused it may go on
-  module _ {u : Square} (h : Place) (x : ℕ) (e : outcomeAt u h ≡ move whole n (workAt t g) x) where
-    moved : workAt u h ≡ move whole n (workAt t g) x .work-is
-    moved = ap (λ (o : Outcome). o .work-is) e
-
-    pub stands-on : (Ruled n t g → Ruled n u h) → h .refusal ≡ 0 → Standing whole n u h
-    stands-on keeps z = record {
-      start = s .start;
-      promise = s .promise;
-      arrived = subst (Arrived whole n (s .start)) (sym moved) (move-arrives (s .arrived) x);
-      unrefused = z;
-      knows = keeps (s .knows);
-    }
-
-    -- THE CHOICES: the i-th is x
-    module _ (cs : List ℕ) (i : ℕ) (l : i < length cs) (c : x ≡ getD cs i 0) where
-      pub chosen-on : h .refusal ≡ 0 → moves whole n (workAt u h) (drop (i + 1) cs) ≡ moves whole n (workAt t g) (drop i cs)
-      unfolding moves
-      chosen-on z = rw (drop-cons cs i 0 l, ← c, ← e, z, add-one i) refl
-
-      pub chosen-stops : h .refusal ≢ 0 → outcomeAt u h ≡ moves whole n (workAt t g) (drop i cs)
-      unfolding moves
-      chosen-stops d = rw (drop-cons cs i 0 l, ← c, ← e, ne-eqb (h .refusal) 0 d) refl
-
-  pub chosen-all : (cs : List ℕ) (i : ℕ) → length cs ≤ i → outcomeAt t g ≡ moves whole n (workAt t g) (drop i cs)
-  unfolding moves
-  chosen-all cs i l = rw (drop-of-length-le cs l, s .unrefused) refl
-
   -- PHASE ONE AT ONCE
   module _ (one : isProposing (g .stage) ≡ true) {u : Square} (h : Place) (e : Stands n u h (inOne whole n (phaseOne n (workAt t g)))) where
     pub stands-past : Standing whole n u h
@@ -145,16 +147,27 @@ begins {whole} {n} {t} {g} promise h = record {
   knows = h .1;
 }
 
-module _ (whole : Bool) (n : ℕ) (t : Square) (cs : List ℕ) (g h : Place) {u : Square}
-    (b : Stands n t g (begun whole n t)) (m : outcomeAt u h ≡ moves whole n (workAt t g) cs) where
-  moved-all : outcomeAt u h ≡ moves whole n (begun whole n t) cs
-  moved-all = m ∙ ap (λ (w : Work). moves whole n w cs) (ap (λ (o : Outcome). o .work-is) (b .0))
+module _ (whole : Bool) (n : ℕ) (t : Square) (cs : List ℕ) (g : Place) (b : Stands n t g (begun whole n t)) where
+  begun-is : workAt t g ≡ begun whole n t
+  begun-is = ap (λ (o : Outcome). o .work-is) (b .0)
 
-  pub worked-refused : h .refusal ≢ 0 → outcomeAt u h ≡ worked whole n t cs
-  unfolding worked
-  worked-refused d = rw (← moved-all, ne-eqb (h .refusal) 0 d) refl
+  -- an odd number of bytes
+  pub worked-odd : (h : Place) → length cs % 2 ≢ 0 → outcomeAt t h ≡ outcome 14 (workAt t g) → outcomeAt t h ≡ workedBy whole n t cs
+  unfolding workedBy
+  worked-odd h d e = rw (ne-eqb (length cs % 2) 0 d) (e ∙ ap (outcome 14) begun-is)
 
-  pub worked-out : {v : Square} (k : Place) → h .refusal ≡ 0 → outcomeAt v k ≡ outcome 0 (concluded (turns n) whole n (workAt u h))
-      → outcomeAt v k ≡ worked whole n t cs
-  unfolding worked
-  worked-out k z e = rw (← moved-all, z) e
+  module _ (even : length cs % 2 ≡ 0) (h : Place) {u : Square}
+      (f : outcomeAt u h ≡ follows whole n (R.marked (workAt t g) R.unmarked) (recordsOf cs)) where
+    by-records : workedBy whole n t cs ≡ carriedOut whole n (outcomeAt u h)
+    unfolding workedBy
+    by-records =
+        let g : follows whole n (started whole n t) (recordsOf cs) ≡ outcomeAt u h
+        = ap (λ (w : Work). follows whole n (R.marked w R.unmarked) (recordsOf cs)) (sym begun-is) ∙ sym f in
+        rw (eq-eqb (length cs % 2) 0 even) (ap (carriedOut whole n) g)
+
+    pub worked-refused : h .refusal ≢ 0 → outcomeAt u h ≡ workedBy whole n t cs
+    worked-refused d = rw (by-records, ne-eqb (h .refusal) 0 d) refl
+
+    pub worked-out : {v : Square} (k : Place) → h .refusal ≡ 0 → outcomeAt v k ≡ outcome 0 (concluded (turns n) whole n (workAt u h))
+        → outcomeAt v k ≡ workedBy whole n t cs
+    worked-out k z e = rw (by-records, z) e

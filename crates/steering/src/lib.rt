@@ -1,15 +1,20 @@
-// Whole workings: the choices' moves, then the rule's to the end. For the crates above, which prove what they require.
-use base::wide;
+// Whole workings: the records of the choices, then the rule's moves to the end. For the crates above, which prove what they require.
+use marks::act;
+use marks::begin_marks;
 use moves::make_move;
+use records::Record;
 use roommates::Stage;
 use stages::Place;
 use stages::begin;
 use stages::propose_on;
+use stages::refuse;
 ghost use mathlib.Core.Path.{_≡_};
 ghost use Rattle.sheet.specs.Square.{SquarePromise};
-ghost use Rattle.roommates.specs.Moves.{outcome, moves, concluded, turns, worked};
+ghost use Rattle.roommates.specs.Moves.{outcome, concluded, turns};
+ghost use Rattle.records.specs.Records.{recordsOf, marked, unmarked, follows, workedBy};
 ghost use Rattle.stages.specs.Places.{workAt, outcomeAt};
-ghost use Rattle.steering.specs.Lawful.{isOver, isProposing, Standing};
+ghost use Rattle.moves.specs.Standing.{Standing};
+ghost use Rattle.steering.specs.Ends.{isOver, isProposing};
 
 fn is_over(stage: Stage) -> bool
     ensures { λ r. ⌜ r ≡ isOver stage ⌝ }
@@ -23,8 +28,8 @@ fn is_over(stage: Stage) -> bool
     }
 }
 
-// The choices' moves, up to the first that is refused.
-fn choose(
+// The records, up to the first that is refused. What the marks save stands here.
+fn follow(
     n: usize,
     lists: &mut [[u8; 128]; 128],
     place: Place,
@@ -32,19 +37,24 @@ fn choose(
     whole: bool,
 ) -> Place
     requires { ⌜ Standing whole n (now lists) place ⌝ }
-    ensures { λ r. ⌜ outcomeAt (now (lists .exit)) r ≡ moves whole n (workAt (now (lists .entry)) place) (now (choices .entry)) ⌝ }
+    ensures { λ r. ⌜ outcomeAt (now (lists .exit)) r ≡ follows whole n (marked (workAt (now (lists .entry)) place) unmarked) (recordsOf (now (choices .entry))) ⌝ }
     ensures { λ r. ⌜ (r .refusal ≡ 0 → Standing whole n (now (lists .exit)) r) ⌝ }
 {
-    let mut next = place;
+    let mut saved = [[[0u8; 128]; 128]; 8];
+    let mut state = begin_marks(place);
+    let count = choices.len() / 2;
     let mut i = 0;
-    while i < choices.len() {
-        next = make_move(n, lists, next, wide(choices[i]), whole);
+    while i < count {
+        let kind = choices[2 * i];
+        let number = choices[2 * i + 1];
+        state = act(n, lists, &mut saved, state, Record { kind, number }, whole);
+        let next = state.place;
         if next.refusal != 0 {
             return next;
         }
         i += 1;
     }
-    next
+    state.place
 }
 
 // The rule's moves, one by one, to the end.
@@ -100,11 +110,14 @@ pub fn working(
     left: &mut [[u8; 128]; 128],
 ) -> Place
     requires { ⌜ SquarePromise n bands ⌝ }
-    ensures { λ r. ⌜ outcomeAt (now (left .exit)) r ≡ worked whole n bands (now (choices .entry)) ⌝ }
+    ensures { λ r. ⌜ outcomeAt (now (left .exit)) r ≡ workedBy whole n bands (now (choices .entry)) ⌝ }
 {
     *left = bands;
     let first = begin(n, left, whole);
-    let chosen = choose(n, left, first, choices, whole);
+    if choices.len() % 2 != 0 {
+        return refuse(first, 14);
+    }
+    let chosen = follow(n, left, first, choices, whole);
     if chosen.refusal != 0 {
         return chosen;
     }

@@ -5,8 +5,9 @@ use borrow.Author.Needs.{needs}
 use Rattle.base.proofs.Tests.{said-yes}
 use Rattle.roommates.specs.PhaseOne.{Work}
 use Rattle.roommates.specs.Moves.{outcome}
-use Rattle.steering.specs.Lawful.{isProposing}
-use Rattle.steering.proofs.LawsSteering.{few-joints, roomy, one-said, stands-past, concluded-past}
+use Rattle.moves.proofs.LawsStanding.{few-joints, roomy}
+use Rattle.steering.specs.Ends.{isProposing}
+use Rattle.steering.proofs.LawsSteering.{one-said, stands-past, concluded-past}
 use Rattle.steering.proofs.conclude.Statement.{statement}
 use Rattle.steering.proofs.conclude.Tie as tie
 

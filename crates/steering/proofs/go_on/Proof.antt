@@ -8,8 +8,10 @@ use native.Mathlib.Numerals.{add-one}
 use Rattle.roommates.specs.PhaseOne.{Work}
 use Rattle.roommates.specs.Moves.{outcome, concluded, turns}
 use Rattle.stages.specs.Places.{workAt}
-use Rattle.steering.specs.Lawful.{isOver, Standing}
-use Rattle.steering.proofs.LawsSteering.{few-joints, roomy, stands-on, rule-ends, rule-unrefused, rule-on, rule-spent}
+use Rattle.moves.specs.Standing.{Standing}
+use Rattle.moves.proofs.LawsStanding.{few-joints, roomy, stands-on}
+use Rattle.steering.specs.Ends.{isOver}
+use Rattle.steering.proofs.LawsSteering.{rule-ends, rule-unrefused, rule-on, rule-spent}
 use Rattle.steering.proofs.go_on.Statement.{statement}
 use Rattle.steering.proofs.go_on.Tie as tie
 

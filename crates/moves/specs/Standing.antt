@@ -1,30 +1,12 @@
--- A working that the loops may go on with.
+-- A working that may go on.
 use mathlib.Core.Path.{_≡_}
-use mathlib.Core.Bool.{Bool, true, false}
+use mathlib.Core.Bool.{Bool}
 use Prim.Native.Nat.{ℕ}
 use Rattle.sheet.specs.Square.{SquarePromise}
-use Rattle.roommates.specs.declared.Stage.{Stage}
-use Rattle.roommates.specs.declared.Stage.the-variants.{Proposing, Cutting, NoneOne, NoneTwo, Paired}
 use Rattle.roommates.specs.Lists.{Square}
 use Rattle.roommates.specs.Runs.{Arrived}
 use Rattle.stages.specs.declared.Place.{Place}
 use Rattle.stages.specs.Places.{workAt, Ruled}
-
--- has a working ended?
-abbrev pub isOver : Stage → Bool
-isOver Proposing = false
-isOver Cutting = false
-isOver NoneOne = true
-isOver NoneTwo = true
-isOver Paired = true
-
--- is it in phase one?
-abbrev pub isProposing : Stage → Bool
-isProposing Proposing = true
-isProposing Cutting = false
-isProposing NoneOne = false
-isProposing NoneTwo = false
-isProposing Paired = false
 
 -- It came from lists that keep the reader's promise, so that its counts are small; no choice was refused; and the place knows the rule's joint.
 pub record Standing (whole : Bool) (n : ℕ) (t : Square) (g : Place) : Type 0 where

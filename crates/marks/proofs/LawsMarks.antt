@@ -1,0 +1,199 @@
+-- A record's way out: refused, a step, a mark set, a return. The working is s beside the lists t and those that its marks have saved.
+use mathlib.Core.Path.{_≡_, refl, sym, _∙_, ap, subst, fun-ext}
+use mathlib.Core.Bool.{Bool, true, false, cond}
+use mathlib.Core.List.{List, [], _∷_}
+use mathlib.Core.Logic.{_≢_}
+use Prim.Native.Nat.{ℕ, zero, suc, _≤_, _<_}
+use native.Mathlib.Omega.{arith}
+use lib.Dec.{eqb}
+use lib.ListN.{length, getD, set, replicate, length-set}
+use lib.Seq.{getD-set-same, getD-set-other}
+use borrow.Author.Tests.{lt-ltb, le-ltb, eq-eqb, ne-eqb}
+use Rattle.base.proofs.Cases.{case, eq-ne}
+use Rattle.base.proofs.Tests.{never}
+use Rattle.roommates.specs.Lists.{Square}
+use Rattle.roommates.specs.PhaseOne.{Work}
+use Rattle.roommates.specs.Moves.{Outcome, outcome, move}
+use Rattle.records.specs.declared.Record.{Record}
+use Rattle.records.specs.Records as R
+use Rattle.stages.specs.declared.Place.{Place}
+use Rattle.stages.specs.Places.{workAt, outcomeAt, Ruled}
+use Rattle.moves.specs.Standing.{Standing}
+use Rattle.moves.proofs.LawsStanding.{stands-on}
+use Rattle.marks.specs.declared.Mark.{Mark}
+use Rattle.marks.specs.declared.Marked.{Marked}
+use Rattle.marks.specs.Marks.{withSaved, withPlace, markIn, markAt, marksAt, markedAt, actedAt, Unrefused, AllStand, KeepStanding}
+
+-- an element that is there, whatever stands for one that is not
+pub there : {A : Type 0} (l : List A) (i : ℕ) (d e : A) → i < length l → getD l i d ≡ getD l i e
+there [] i d e h = absurd (omega arith)
+there (x ∷ l) zero d e h = refl
+there (x ∷ l) (suc i) d e h = there l i d e (omega arith)
+
+-- NO MARK SET
+module _ (g : Place) where
+  abbrev fresh : Marked
+  fresh = record { place = g; marks = replicate 8 record { set = false; place = g } }
+
+  none-set : (k m : ℕ) → markIn (replicate k record { set = false; place = g }) m .set ≡ false
+  none-set zero m = refl
+  none-set (suc k) zero = refl
+  none-set (suc k) (suc m) = none-set k m
+
+  pub begins-unmarked : (t : Square) (saved : List Square) → markedAt t saved fresh ≡ R.marked (workAt t g) R.unmarked
+  unfolding marksAt
+  begins-unmarked t saved =
+      ap (R.marked (workAt t g)) (fun-ext (λ m. ap (λ b. cond b (R.saved (workAt (getD saved m []) (markIn (fresh .marks) m .place))) R.unset) (none-set 8 m)))
+
+  pub begins-standing : (whole : Bool) (n : ℕ) (t : Square) (saved : List Square) → Standing whole n t g → length saved ≡ 8 → AllStand whole n t saved fresh
+  begins-standing whole n t saved s e = record {
+    stands = s;
+    marks-stand = λ m l h. absurd (never _ h (none-set 8 m));
+    eight-saved = e;
+    eight-marks = refl;
+  }
+
+module _ (t : Square) (saved : List Square) (s : Marked) where
+  abbrev before-it : R.Marked
+  before-it = markedAt t saved s
+
+  -- REFUSED: the place g says so, and the marks are as they were
+  pub says-refused : (g : Place) {k : ℕ} → outcomeAt t g ≡ outcome k (workAt t (s .place)) → actedAt t saved (withPlace g s) ≡ R.acted k before-it
+  says-refused g e = ap (λ (o : Outcome). R.acted (o .refusal) (R.marked (o .work-is) (marksAt saved (s .marks)))) e
+
+  -- a state that is refused does not stand
+  pub refused-keeps : {k : ℕ} (r : Marked) (whole : Bool) (n : ℕ) → actedAt t saved r ≡ R.acted (suc k) before-it → KeepStanding whole n t saved s t saved r
+  refused-keeps r whole n e all z = let i = ap (λ (a : R.Acted). a .refusal) e in absurd (omega arith)
+
+  -- A STEP
+  module _ (whole : Bool) (n x : ℕ) (t′ : Square) (g : Place) (e : outcomeAt t′ g ≡ move whole n (workAt t (s .place)) x) where
+    pub steps-so : actedAt t′ saved (withPlace g s) ≡ R.stepped whole n before-it x
+    unfolding R.stepped
+    steps-so = ap (λ (o : Outcome). R.acted (o .refusal) (R.marked (o .work-is) (marksAt saved (s .marks)))) e
+
+    pub step-keeps : (Ruled n t (s .place) → Ruled n t′ g) → KeepStanding whole n t saved s t′ saved (withPlace g s)
+    step-keeps keeps all z = record {
+      stands = stands-on (all .stands) g x e keeps z;
+      marks-stand = all .marks-stand;
+      eight-saved = all .eight-saved;
+      eight-marks = all .eight-marks;
+    }
+
+  -- A MARK
+  module _ (m : ℕ) where
+    pub no-mark-set : (r : Marked) → 8 ≤ m → actedAt t saved r ≡ R.acted 15 before-it → actedAt t saved r ≡ R.markSet before-it m
+    unfolding R.markSet
+    no-mark-set r l e = e ∙ sym (ap (λ b. cond b (R.acted 0 (R.marked (before-it .working) (R.withMark m (before-it .working) (before-it .marks)))) (R.acted 15 before-it)) (le-ltb m 8 l))
+
+    module _ (l : m < 8) (eight-saved : length saved ≡ 8) (eight-marks : length (s .marks) ≡ 8) where
+      same-saved : (i : ℕ) → i ≡ m → getD (set saved m t) i [] ≡ t
+      same-saved i e = ap (λ j. getD (set saved m t) j []) e ∙ getD-set-same saved m t [] (omega arith)
+
+      same-mark : (i : ℕ) → i ≡ m → markIn (withSaved m s .marks) i ≡ record { set = true; place = s .place }
+      same-mark i e = ap (markIn (withSaved m s .marks)) e ∙ getD-set-same (s .marks) m _ _ (omega arith)
+
+      other-saved : (i : ℕ) → (i ≡ m → ⊥) → getD (set saved m t) i [] ≡ getD saved i []
+      other-saved i d = getD-set-other saved m i t [] d
+
+      other-mark : (i : ℕ) → (i ≡ m → ⊥) → markIn (withSaved m s .marks) i ≡ markIn (s .marks) i
+      other-mark i d = getD-set-other (s .marks) m i _ _ d
+
+      marks-set : (i : ℕ) → marksAt (set saved m t) (withSaved m s .marks) i ≡ R.withMark m (workAt t (s .place)) (marksAt saved (s .marks)) i
+      unfolding marksAt
+      marks-set i =
+          case (eq-ne i m)
+          (λ e.
+          ap (λ (u : Square). markAt u (markIn (withSaved m s .marks) i)) (same-saved i e)
+          ∙ ap (markAt t) (same-mark i e)
+          ∙ sym (ap (λ b. cond b (R.saved (workAt t (s .place))) (markAt (getD saved i []) (markIn (s .marks) i))) (eq-eqb i m e)))
+          (λ d.
+          ap (λ (u : Square). markAt u (markIn (withSaved m s .marks) i)) (other-saved i d)
+          ∙ ap (markAt (getD saved i [])) (other-mark i d)
+          ∙ sym (ap (λ b. cond b (R.saved (workAt t (s .place))) (markAt (getD saved i []) (markIn (s .marks) i))) (ne-eqb i m d)))
+
+      pub marks-so : s .place .refusal ≡ 0 → actedAt t (set saved m t) (withSaved m s) ≡ R.markSet before-it m
+      unfolding R.markSet
+      marks-so z =
+          ap (λ k. R.acted k (markedAt t (set saved m t) (withSaved m s))) z
+          ∙ ap (λ (f : ℕ → R.Mark). R.acted 0 (R.marked (workAt t (s .place)) f)) (fun-ext marks-set)
+          ∙ sym (ap (λ b. cond b (R.acted 0 (R.marked (before-it .working) (R.withMark m (before-it .working) (before-it .marks)))) (R.acted 15 before-it)) (lt-ltb m 8 l))
+
+      pub mark-keeps : (whole : Bool) (n : ℕ) → KeepStanding whole n t saved s t (set saved m t) (withSaved m s)
+      mark-keeps whole n all z = record {
+        stands = all .stands;
+        marks-stand = λ i k h.
+            case (eq-ne i m)
+            (λ e. at i (sym (same-saved i e)) (sym (same-mark i e)) (all .stands))
+            (λ d. at i (sym (other-saved i d)) (sym (other-mark i d)) (all .marks-stand i k (ap (λ (x : Mark). x .set) (sym (other-mark i d)) ∙ h)));
+        eight-saved = length-set saved m t ∙ eight-saved;
+        eight-marks = length-set (s .marks) m _ ∙ eight-marks;
+      }
+        where
+          at : (i : ℕ) {u : Square} {x : Mark} → u ≡ getD (set saved m t) i [] → x ≡ markIn (withSaved m s .marks) i → Standing whole n u (x .place)
+              → Standing whole n (getD (set saved m t) i []) (markIn (withSaved m s .marks) i .place)
+          at i {u} {x} eu ex st = subst (λ (x : Mark). Standing whole n (getD (set saved m t) i []) (x .place)) ex (subst (λ (v : Square). Standing whole n v (x .place)) eu st)
+
+    -- A RETURN
+    pub nowhere-to : (r : Marked) → 8 ≤ m → actedAt t saved r ≡ R.acted 15 before-it → actedAt t saved r ≡ R.returnedTo before-it m
+    unfolding R.returnedTo
+    nowhere-to r l e = e ∙ sym (ap (λ b. cond b (R.restored before-it (marksAt saved (s .marks) m)) (R.acted 15 before-it)) (le-ltb m 8 l))
+
+    module _ (l : m < 8) where
+      restored-is : {a : R.Mark} → marksAt saved (s .marks) m ≡ a → R.returnedTo before-it m ≡ R.restored before-it a
+      unfolding R.returnedTo
+      restored-is e =
+          ap (λ b. cond b (R.restored before-it (marksAt saved (s .marks) m)) (R.acted 15 before-it)) (lt-ltb m 8 l) ∙ ap (R.restored before-it) e
+
+      -- the mark that was read
+      module _ (x : Mark) (is : x ≡ markIn (s .marks) m) where
+        mark-is : {b : Bool} → x .set ≡ b → marksAt saved (s .marks) m ≡ cond b (R.saved (workAt (getD saved m []) (markIn (s .marks) m .place))) R.unset
+        unfolding marksAt
+        mark-is h = ap (λ b. cond b (R.saved (workAt (getD saved m []) (markIn (s .marks) m .place))) R.unset) (sym (ap (λ (y : Mark). y .set) is) ∙ h)
+
+        pub not-set-to : (r : Marked) → x .set ≡ false → actedAt t saved r ≡ R.acted 15 before-it → actedAt t saved r ≡ R.returnedTo before-it m
+        not-set-to r h e = e ∙ sym (restored-is (mark-is h))
+
+        module _ (h : x .set ≡ true) where
+          set-there : markIn (s .marks) m .set ≡ true
+          set-there = sym (ap (λ (y : Mark). y .set) is) ∙ h
+
+          pub returns-so : Unrefused s → actedAt (getD saved m []) saved (withPlace (x .place) s) ≡ R.returnedTo before-it m
+          returns-so un =
+              ap (λ (y : Mark). actedAt (getD saved m []) saved (withPlace (y .place) s)) is
+              ∙ ap (λ k. R.acted k (R.marked (workAt (getD saved m []) (markIn (s .marks) m .place)) (marksAt saved (s .marks)))) (un m l set-there)
+              ∙ sym (restored-is (mark-is h))
+
+          pub return-keeps : (whole : Bool) (n : ℕ) → KeepStanding whole n t saved s (getD saved m []) saved (withPlace (x .place) s)
+          return-keeps whole n all z = record {
+            stands = subst (λ (y : Mark). Standing whole n (getD saved m []) (y .place)) (sym is) (all .marks-stand m l set-there);
+            marks-stand = all .marks-stand;
+            eight-saved = all .eight-saved;
+            eight-marks = all .eight-marks;
+          }
+
+-- BY KIND, with its number as the code reads it
+module _ (whole : Bool) (n : ℕ) (s : R.Marked) (r : Record) {x : ℕ} (is : x ≡ r .number) {a : R.Acted} where
+  pub kind-step : r .kind ≡ 0 → a ≡ R.stepped whole n s x → a ≡ R.acts whole n s r
+  unfolding R.acts
+  kind-step e h = rw (e, ← is) h
+
+  pub kind-mark : r .kind ≡ 1 → a ≡ R.markSet s x → a ≡ R.acts whole n s r
+  unfolding R.acts
+  kind-mark e h = rw (e, ← is) h
+
+  pub kind-return : r .kind ≡ 2 → a ≡ R.returnedTo s x → a ≡ R.acts whole n s r
+  unfolding R.acts
+  kind-return e h = rw (e, ← is) h
+
+pub kind-other : (whole : Bool) (n : ℕ) (s : R.Marked) (r : Record) {a : R.Acted} → 3 ≤ r .kind → a ≡ R.acted 14 s → a ≡ R.acts whole n s r
+unfolding R.acts
+kind-other whole n s r l h = h ∙ sym (go (r .kind) l)
+  where
+    go : (k : ℕ) → 3 ≤ k → R.actsIn k whole n s (r .number) ≡ R.acted 14 s
+    go zero l = absurd (omega arith)
+    go (suc zero) l = absurd (omega arith)
+    go (suc (suc zero)) l = absurd (omega arith)
+    go (suc (suc (suc k))) l = refl
+
+pub above : (k : ℕ) → k ≢ 0 → k ≢ 1 → k ≢ 2 → 3 ≤ k
+above k a b c = omega arith

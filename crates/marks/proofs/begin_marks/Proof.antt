@@ -1,0 +1,11 @@
+-- No mark is set.
+use Rattle.marks.proofs.LawsMarks.{begins-unmarked, begins-standing}
+use borrow.Author.Needs.{needs}
+use Rattle.marks.proofs.begin_marks.Statement.{statement}
+use Rattle.marks.proofs.begin_marks.Tie as tie
+
+returns : tie.Need-returns
+returns c = (begins-unmarked (c .args .place), begins-standing (c .args .place))
+
+pub begin-marks-spec : {M : Type 1} → statement M
+begin-marks-spec = tie.close (tie.spec returns)

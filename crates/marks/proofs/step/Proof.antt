@@ -1,0 +1,20 @@
+-- A step.
+use Rattle.moves.proofs.LawsStanding.{few-joints, roomy}
+use Rattle.marks.proofs.LawsMarks.{steps-so, step-keeps}
+use borrow.Author.Needs.{needs}
+use Rattle.marks.proofs.step.Statement.{statement}
+use Rattle.marks.proofs.step.Tie as tie
+
+make-move-requires : tie.Need-make-move-requires
+make-move-requires c κs = let s = c .before .pre in (few-joints s, roomy s)
+
+returns : tie.Need-returns
+returns c =
+    let m = c .before .make-move in
+    let s = c .before .before .before .args .state in (
+      λ saved. steps-so _ saved s _ _ _ _ (m .result) (m .ensures .0),
+      λ saved. step-keeps _ saved s _ _ _ _ (m .result) (m .ensures .0) (m .ensures .1),
+    )
+
+pub step-spec : {M : Type 1} → statement M
+step-spec = tie.close (tie.spec make-move-requires returns)
