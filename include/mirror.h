@@ -9,8 +9,8 @@
  * keeps nothing between calls, takes no memory but the stack, and may run in several threads at once. What a caller owes:
  *   - each pointer points to as many bytes as the size after it says (NULL will do where the size is 0);
  *   - `out` shares no byte with `sheet` or `choices`, and nothing writes to any of them during the call;
- *   - 256 KiB of stack are free, whatever the sheet (64 KiB for mirror_check). A main thread has far more; a thread that
- *     is started with a small stack may not.
+ *   - 384 KiB of stack are free, whatever the sheet and the choices (64 KiB for mirror_check); measured, the calls use up to
+ *     290 KB, of which the marks take 130. A main thread has far more; a thread that is started with a small stack may not.
  *
  * The library is for x86-64 Linux and calls memcpy and memset of the C library, nothing else.
  *
@@ -24,11 +24,25 @@
  * be cut off at a distance, so entries that are not returned are welcome; their form is looked at like that of others, but
  * they count as unlisted everywhere: nobody is paired by one, none blocks, and mirror_shorten leaves them out.
  *
- * CHOICES settle the order of work, a byte each: in the first phase the joint that proposes next, which must be waiting
- * (its list is not empty and none of its proposals stands); in the second the joint at whose list the next cut is made,
- * which must be longer than one. Where there are none, or when they run out, the lowest joint allowed is taken. No legal
- * choices change whether there is a pairing, how many joints it pairs, or the shortened lists. They may change which of
- * several super-stable pairings is found. Most callers pass NULL, 0.
+ * CHOICES settle the order of work. They are records of two bytes, a kind and a number:
+ *   0, joint   A step. In the first phase the joint proposes next; it must be waiting (its list is not empty and none of its
+ *              proposals stands). In the second the next cut is made at its list, which must be longer than one.
+ *   1, mark    Sets a mark, 0 to 7: the work as it stands is saved. Setting a mark again replaces it.
+ *   2, mark    Returns to a mark: the work is again as it was when that mark was last set, whether it has ended since or not.
+ *              Marks stay as they are, those set since too.
+ * The steps that stand are those that stood when the mark was set, and later ones follow them. The answer is that of the
+ * steps standing at the end, without marks and returns. Where there are no choices, or when they run out, the lowest joint
+ * allowed is taken. No legal choices change whether there is a pairing, how many joints it pairs, or the shortened lists.
+ * They may change which of several super-stable pairings is found. Most callers pass NULL, 0. For a sheet whose first phase
+ * takes a step of each of the joints 0 to 3, a cut that is tried and taken back, and another in its place:
+ *     static const uint8_t choices[] = {
+ *         0, 0,  0, 1,  0, 2,  0, 3,    the steps of the first phase
+ *         1, 0,                         mark 0
+ *         0, 0,                         a cut at joint 0
+ *         2, 0,                         back to mark 0
+ *         0, 1                          a cut at joint 1
+ *     };
+ *     answer = mirror_settle(sheet, size, choices, sizeof choices, partner, sizeof partner);
  *
  * REFUSALS: the lowest byte of every return is 0, or the number of the first thing wrong, looked for in this order:
  *    1  the sheet ends before n (it is empty)
@@ -44,9 +58,13 @@
  *    9  `out` is too short
  *   10  the offered pairing is not one: not n bytes, a byte that is neither 255 nor a joint, two joints that do not name
  *       each other, or a pair of joints that do not list each other
- *   11  the chosen joint does not wait, or is no joint (first phase)
- *   12  the chosen list is not longer than one, or the choice is no joint (second phase)
- *   13  a choice is left over when the work has ended
+ *   14  an odd number of choice bytes
+ *       record by record, for the first that is refused:
+ *   14    a kind above 2
+ *   15    a mark above 7, or a return to a mark that is not set
+ *   13    a step when the work has ended
+ *   11    the chosen joint does not wait, or is no joint (first phase)
+ *   12    the chosen list is not longer than one, or the choice is no joint (second phase)
  * A refused call writes nothing, whenever the refusal is met.
  */
 #ifndef MIRROR_H
@@ -102,7 +120,9 @@ enum mirror_refusal {
     MIRROR_NO_PAIRING_OFFERED = 10,
     MIRROR_CHOICE_DOES_NOT_WAIT = 11,
     MIRROR_CHOICE_HAS_NO_LIST = 12,
-    MIRROR_CHOICE_LEFT_OVER = 13
+    MIRROR_CHOICE_LEFT_OVER = 13,
+    MIRROR_BAD_RECORD = 14,
+    MIRROR_NO_SUCH_MARK = 15
 };
 
 /*
@@ -110,7 +130,7 @@ enum mirror_refusal {
  * program that is linked against a library other than the header it was compiled with can tell:
  *     if (mirror_version() != MIRROR_VERSION) ...
  */
-#define MIRROR_VERSION 2
+#define MIRROR_VERSION 3
 uint32_t mirror_version(void);
 
 /*
@@ -120,7 +140,7 @@ uint32_t mirror_version(void);
  *   verdict 3  a pairing of `count` pairs. out[0 .. n-1] are each joint's partner, 255 for an unpaired joint.
  *   verdict 1  the sheet has no super-stable pairing, which the first phase showed; count is 0, nothing is written.
  *   verdict 2  the same, shown by the second phase.
- *   verdict 0  refused (1 to 6, 8, 9, 11 to 13); count is 0, nothing is written.
+ *   verdict 0  refused (1 to 6, 8, 9, 11 to 15); count is 0, nothing is written.
  * `out` needs n bytes or more, also where there turns out to be no pairing. Bytes past the first n stay as they were.
  */
 uint32_t mirror_settle(const uint8_t *sheet, size_t sheet_size,
@@ -134,7 +154,7 @@ uint32_t mirror_settle(const uint8_t *sheet, size_t sheet_size,
  *   verdict 3  `count` entries are left. `out` begins with the count, two bytes, low byte first, then 3 x count bytes of
  *              entries in the sheet's form and order, with the sheet's bands.
  *   verdict 1  the sheet has no super-stable pairing; count is 0, nothing is written.
- *   verdict 0  refused (1 to 6, 8, 9, 11, 13); count is 0, nothing is written.
+ *   verdict 0  refused (1 to 6, 8, 9, 11, 13 to 15); count is 0, nothing is written.
  * `out` needs 2 + 3 x m bytes or more, for the m of the sheet, which counts entries that are not returned too. Bytes past
  * those written stay as they were.
  */
@@ -162,8 +182,9 @@ uint32_t mirror_check(const uint8_t *sheet, size_t sheet_size,
  * Counts the work that mirror_settle (whole is true) or mirror_shorten (false) does with the same sheet and choices:
  * proposals of the first phase, one for each joint reached, and cuts of the second.
  *
- * Returns refusal + 65,536 x proposals + 2^32 x cuts. Where the sheet is refused (1 to 6, 8) both are 0. Where a choice is
- * refused (11 to 13) they are those made until then.
+ * Returns refusal + 65,536 x proposals + 2^32 x cuts, of the steps standing: those taken back by a return do not count.
+ * Where the sheet is refused (1 to 6, 8), or the number of choice bytes is odd (14), both are 0. Where a record is refused (11
+ * to 15) they are of the steps then standing.
  */
 uint64_t mirror_counts(const uint8_t *sheet, size_t sheet_size,
                        const uint8_t *choices, size_t choices_size,

@@ -5,14 +5,12 @@ use mathlib.Core.List.{List, [], _∷_}
 use mathlib.Core.Logic.{_≢_}
 use Prim.Native.Nat.{ℕ, zero, suc, _≤_, _<_}
 use native.Mathlib.Omega.{arith}
-use lib.Dec.{eqb}
 use lib.ListN.{length, getD, set, replicate, length-set}
 use lib.Seq.{getD-set-same, getD-set-other}
 use borrow.Author.Tests.{lt-ltb, le-ltb, eq-eqb, ne-eqb}
 use Rattle.base.proofs.Cases.{case, eq-ne}
 use Rattle.base.proofs.Tests.{never}
 use Rattle.roommates.specs.Lists.{Square}
-use Rattle.roommates.specs.PhaseOne.{Work}
 use Rattle.roommates.specs.Moves.{Outcome, outcome, move}
 use Rattle.records.specs.declared.Record.{Record}
 use Rattle.records.specs.Records as R

@@ -1,14 +1,13 @@
 -- What one record does, or why it may not come next.
-use mathlib.Core.Path.{_≡_, refl, sym, _∙_, ap}
+use mathlib.Core.Path.{_≡_, refl, _∙_, ap}
 use mathlib.Core.Bool.{Bool, true, false, true≢false}
-use mathlib.Core.Logic.{_⊎_, inl, inr, _≢_}
+use mathlib.Core.Logic.{inl, inr, _≢_}
 use Prim.Native.Nat.{ℕ, zero, suc, _≤_, _<_}
 use native.Mathlib.Omega.{arith}
 use borrow.Author.Tests.{lt-ltb, le-ltb}
 use Rattle.base.proofs.Cases.{case, lt-ge}
 use Rattle.roommates.specs.PhaseOne.{Work}
 use Rattle.roommates.specs.Moves.{outcome, move}
-use Rattle.roommates.specs.Claims.{Unfit}
 use Rattle.roommates.proofs.ChoicesRefused.{Tried, fit-step, fit-cut, unfit, tried, unfit-move, unfit-number}
 use Rattle.records.specs.declared.Record.{Record}
 use Rattle.records.specs.Records.{entry, Mark, unset, saved, Marked, marked, withMark, acted, stepped, markSet, restored, returnedTo, acts}

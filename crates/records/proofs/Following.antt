@@ -69,7 +69,7 @@ module _ (whole : Bool) (n : ℕ) where
       by-record (does-nothing {k = k} bad h) rest = stopped [] r rs s k refl none-followed bad (follows-stop s r rs (unfit-some bad) h)
 
   -- WHICH MARKS ARE SET: those that a record sets. A return changes none.
-  pub set-by-one : (s v : Marked) (r : Record) → acts whole n s r ≡ acted 0 v → (m : ℕ)
+  set-by-one : (s v : Marked) (r : Record) → acts whole n s r ≡ acted 0 v → (m : ℕ)
       → isSetIn v m ≡ ((eqb (r .kind) 1 && eqb (r .number) m) || isSetIn s m)
   set-by-one s v r h m = by-record (does whole n s r)
     where

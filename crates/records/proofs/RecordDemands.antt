@@ -1,7 +1,7 @@
 -- Demands 2 and 3 for records: the working is that of the steps standing, so it arrives by steps and cuts as every working does.
 use mathlib.Core.Path.{_≡_, refl, sym, _∙_, ap, subst}
 use mathlib.Core.Bool.{Bool, true, false, cond}
-use mathlib.Core.List.{List, [], _∷_}
+use mathlib.Core.List.{List, [], _∷_, _++_}
 use Prim.Native.Nat.{ℕ, _%_}
 use native.Mathlib.Omega.{arith}
 use lib.Dec.{eqb}
@@ -24,8 +24,8 @@ use Rattle.roommates.proofs.Demands.{all-settled}
 use Rattle.records.specs.declared.Record.{Record}
 use Rattle.records.specs.Records.{recordsOf, Marked, acts, stepped, follows, started, isOdd, workedBy, settlesBy, shortensBy}
 use Rattle.records.specs.Standing.{standing, stepBytes}
-use Rattle.records.specs.Claims.{RecordsReplayed, BytesReplayed, StepsReplayed, RecordDemands}
-use Rattle.records.proofs.Following.{Came, all-followed, stopped, unfit-some, came}
+use Rattle.records.specs.Claims.{Replayed, RecordsReplayed, BytesReplayed, StepsReplayed, RecordDemands}
+use Rattle.records.proofs.Following.{followed-all, Came, all-followed, stopped, unfit-some, came}
 use Rattle.records.proofs.Replay.{followed-replayed}
 
 module _ (whole : Bool) (n : ℕ) (t : Square) where
@@ -78,18 +78,51 @@ module _ (whole : Bool) (n : ℕ) (t : Square) where
       (λ e. carried-ends whole n s (after bytes) (follows-arrive (recordsOf bytes)))
 
 -- THE STEPS STANDING
+append-none : (rs : List Record) → rs ≡ rs ++ []
+append-none [] = refl
+append-none (r ∷ rs) = ap (λ l. r ∷ l) (append-none rs)
+
 pub records-replayed : RecordsReplayed
-records-replayed whole n t rs z = by-end (came whole n rs (started whole n t)) z
+records-replayed whole n t rs = by-end (came whole n rs (started whole n t)) refl
   where
-    by-end : {o : Outcome} → Came whole n (started whole n t) rs o → o .refusal ≡ 0 → o ≡ moves whole n (begun whole n t) (standing rs)
-    by-end (all-followed u f h) z = h ∙ sym (followed-replayed whole n t f)
-    by-end (stopped earlier met later u k split f bad h) z = absurd (unfit-some whole n bad (sym (ap (λ (o : Outcome). o .refusal) h) ∙ z))
+    start : Marked
+    start = started whole n t
+
+    left : {k : ℕ} {w : Work} {o : Outcome} → o ≡ outcome k w → follows whole n start rs ≡ o
+        → {after : Outcome} → after ≡ outcome 0 w → after ≡ outcome 0 (follows whole n start rs .work-is)
+    left h e i = i ∙ ap (λ (o : Outcome). outcome 0 (o .work-is)) (sym (e ∙ h))
+
+    by-end : {o : Outcome} → Came whole n start rs o → follows whole n start rs ≡ o → Replayed whole n t rs
+    by-end (all-followed u f h) e = record {
+      followed = rs;
+      later = [];
+      split = append-none rs;
+      all-followed = λ z. refl;
+      within = ap (λ (o : Outcome). o .refusal) (followed-all whole n f);
+      replayed = left h e (followed-replayed whole n t f);
+    }
+    by-end (stopped earlier met later u k split f bad h) e = record {
+      followed = earlier;
+      later = met ∷ later;
+      split = split;
+      all-followed = λ z. absurd (unfit-some whole n bad (sym (ap (λ (o : Outcome). o .refusal) (e ∙ h)) ∙ z));
+      within = ap (λ (o : Outcome). o .refusal) (followed-all whole n f);
+      replayed = left h e (followed-replayed whole n t f);
+    }
+
+unrefused-replayed : (whole : Bool) (n : ℕ) (t : Square) (rs : List Record) → follows whole n (started whole n t) rs .refusal ≡ 0
+    → follows whole n (started whole n t) rs ≡ moves whole n (begun whole n t) (standing rs)
+unrefused-replayed whole n t rs z =
+    let r = records-replayed whole n t rs in
+    let all : rs ≡ r .followed = r .split ∙ ap (λ l. r .followed ++ l) (r .all-followed z) ∙ sym (append-none (r .followed)) in
+    ap (λ k. outcome k (follows whole n (started whole n t) rs .work-is)) z
+    ∙ sym (ap (λ l. moves whole n (begun whole n t) (standing l)) all ∙ r .replayed)
 
 pub bytes-replayed : BytesReplayed
 unfolding worked
 bytes-replayed whole n t bytes z =
     let r = none-refused whole n t bytes z in
-    by-records whole n t bytes (r .0) ∙ ap (carriedOut whole n) (records-replayed whole n t (recordsOf bytes) (r .1))
+    by-records whole n t bytes (r .0) ∙ ap (carriedOut whole n) (unrefused-replayed whole n t (recordsOf bytes) (r .1))
 
 steps-even : (cs : List ℕ) → length (stepBytes cs) % 2 ≡ 0
 unfolding stepBytes

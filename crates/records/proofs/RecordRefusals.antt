@@ -5,16 +5,14 @@ use mathlib.Core.Logic.{_⊎_, inl, inr, _≢_}
 use mathlib.Core.List.{List, [], _∷_, _++_, append-assoc}
 use Prim.Native.Nat.{ℕ, zero, suc, _%_, _≤_}
 use native.Mathlib.Omega.{arith}
-use lib.Dec.{eqb}
 use lib.ListN.{length}
 use borrow.Author.Tests.{eq-eqb, eqb-true, not-false}
 use Rattle.base.proofs.Cases.{case, both-ways}
 use Rattle.base.proofs.Tests.{never}
-use Rattle.sheet.specs.Square.{SquarePromise}
-use Rattle.roommates.specs.declared.Stage.the-variants.{Proposing, Cutting}
+use Rattle.roommates.specs.declared.Stage.the-variants.{Cutting}
 use Rattle.roommates.specs.Lists.{Square}
 use Rattle.roommates.specs.PhaseOne.{Work}
-use Rattle.roommates.specs.Moves.{begun, Outcome, outcome, moves}
+use Rattle.roommates.specs.Moves.{Outcome, outcome}
 use Rattle.roommates.proofs.Sound.{promise-sound}
 use Rattle.roommates.proofs.Stages.{one-goes-on, two-goes-on}
 use Rattle.roommates.proofs.ChoicesRefused.{carried-refusal, carried-stopped, shorten-unfit, uncutting}

@@ -1,26 +1,23 @@
 -- After any records the working is that of the steps standing, and each mark's that of the steps that stood when it was set.
 use mathlib.Core.Path.{_≡_, refl, sym, _∙_, ap, subst}
-use mathlib.Core.Bool.{Bool, true, false, cond}
-use mathlib.Core.Logic.{_≢_}
+use mathlib.Core.Bool.{Bool}
 use mathlib.Core.List.{List, [], _∷_, _++_}
-use Prim.Native.Nat.{ℕ, zero, suc}
-use native.Mathlib.Omega.{arith}
+use Prim.Native.Nat.{ℕ}
 use lib.Dec.{eqb}
-use lib.ListN.{length}
-use borrow.Author.Tests.{ne-eqb, eq-eqb, eqb-true, eqb-false}
+use borrow.Author.Tests.{ne-eqb, eq-eqb, eqb-false}
 use Rattle.base.proofs.Cases.{case, both-ways, eq-ne, unlike}
 use Rattle.roommates.specs.Lists.{Square}
 use Rattle.roommates.specs.PhaseOne.{Work}
 use Rattle.roommates.specs.Moves.{begun, Outcome, outcome, move, moves}
 use Rattle.records.specs.declared.Record.{Record}
-use Rattle.records.specs.Records.{entry, Mark, unset, saved, Marked, marked, withMark, Acted, acted, acts, started}
+use Rattle.records.specs.Records.{unset, saved, Marked, marked, withMark, Acted, acted, acts, started}
 use Rattle.records.specs.Standing.{Stand, stand, standsIn, standsAfter, standing}
 use Rattle.records.proofs.Acting.{Does, does-step, does-mark, does-return, does-nothing, does}
 use Rattle.records.proofs.Following.{Followed, none-followed, one-followed, unfit-some}
 
 module _ (whole : Bool) (n : ℕ) where
   -- choices that are made, and others after them
-  pub moves-more : (cs : List ℕ) (w : Work) {v : Work} → moves whole n w cs ≡ outcome 0 v → (ds : List ℕ) → moves whole n w (cs ++ ds) ≡ moves whole n v ds
+  moves-more : (cs : List ℕ) (w : Work) {v : Work} → moves whole n w cs ≡ outcome 0 v → (ds : List ℕ) → moves whole n w (cs ++ ds) ≡ moves whole n v ds
   unfolding moves
   moves-more [] w e ds = ap (λ (o : Outcome). moves whole n (o .work-is) ds) e
   moves-more (x ∷ cs) w {v} e ds =
@@ -35,10 +32,7 @@ module _ (whole : Bool) (n : ℕ) where
   one-move w x e = rw e refl
 
   module _ (t : Square) where
-    -- the steps cs take a fresh working to w
-    Reach : List ℕ → Work → Type 0
-    Reach cs w = moves whole n (begun whole n t) cs ≡ outcome 0 w
-
+    -- s is where the steps standing take a fresh working, and each mark has saved where those take it that stood when it was set
     pub record Replayed (s : Marked) (d : Stand) : Type 0 where
       pub now-is : moves whole n (begun whole n t) (d .now) ≡ outcome 0 (s .working)
       pub at-is : (m : ℕ) (w : Work) → s .marks m ≡ saved w → moves whole n (begun whole n t) (d .at m) ≡ outcome 0 w

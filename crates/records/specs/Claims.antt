@@ -11,18 +11,26 @@ use Rattle.sheet.specs.Square.{SquarePromise, squareOf}
 use Rattle.roommates.specs.declared.Stage.the-variants.{Proposing, Cutting}
 use Rattle.roommates.specs.Lists.{Square}
 use Rattle.roommates.specs.PhaseOne.{Work}
-use Rattle.roommates.specs.Moves.{begun, Outcome, outcome, moves, worked}
+use Rattle.roommates.specs.Moves.{begun, outcome, moves, worked}
 use Rattle.roommates.specs.Claims.{stageOf, Settled, Unfit}
 use Rattle.records.specs.declared.Record.{Record}
 use Rattle.records.specs.Records.{recordsOf, follows, started, isOdd, workedBy, settlesBy, shortensBy}
 use Rattle.records.specs.Standing.{isSetBy, standing, stepBytes}
 
--- THE STEPS STANDING. Where nothing is refused the working equals a fresh one after them, in order, and so does its end. Both counts are
--- the working's, so they are of those steps.
-abbrev pub RecordsReplayed : Type 0
-RecordsReplayed = (whole : Bool) (n : ℕ) (t : Square) (rs : List Record) → follows whole n (started whole n t) rs .refusal ≡ 0
-    → follows whole n (started whole n t) rs ≡ moves whole n (begun whole n t) (standing rs)
+-- THE STEPS STANDING. After any records, refused ones among them, the working equals a fresh one after the steps standing, in order. Those are
+-- of the records before the first refused one; of all where none is. Both counts are the working's own, so they are of those steps.
+pub record Replayed (whole : Bool) (n : ℕ) (t : Square) (rs : List Record) : Type 0 where
+  pub followed : List Record
+  pub later : List Record
+  pub split : rs ≡ followed ++ later
+  pub all-followed : follows whole n (started whole n t) rs .refusal ≡ 0 → later ≡ []
+  pub within : follows whole n (started whole n t) followed .refusal ≡ 0
+  pub replayed : moves whole n (begun whole n t) (standing followed) ≡ outcome 0 (follows whole n (started whole n t) rs .work-is)
 
+abbrev pub RecordsReplayed : Type 0
+RecordsReplayed = (whole : Bool) (n : ℕ) (t : Square) (rs : List Record) → Replayed whole n t rs
+
+-- Where nothing is refused the whole working is that of the steps standing.
 abbrev pub BytesReplayed : Type 0
 BytesReplayed = (whole : Bool) (n : ℕ) (t : Square) (bytes : List ℕ) → workedBy whole n t bytes .refusal ≡ 0
     → workedBy whole n t bytes ≡ worked whole n t (standing (recordsOf bytes))

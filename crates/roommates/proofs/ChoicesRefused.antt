@@ -18,7 +18,7 @@ use Rattle.roommates.specs.Runs.{Arrived, in-one, none-in-one, lists-lef
 use Rattle.roommates.specs.Claims.{Made, none-made, step-made, cut-made, Unfit, not-waiting, not-longer, ended-before, RefusedBy, Refusals}
 use Rattle.roommates.proofs.Sound.{promise-sound}
 use Rattle.roommates.proofs.Stages.{each-stage, phases-differ, one-goes-on, two-goes-on}
-use Rattle.roommates.proofs.Arrivals.{move-one, move-two, move-over, moves-arrive, begun-arrives}
+use Rattle.roommates.proofs.Arrivals.{move-one, move-two, move-over}
 use Rattle.roommates.proofs.WorkingsEnd.{worked-ends}
 
 -- a joint that passes its test, or not
@@ -57,7 +57,7 @@ module _ (whole : Bool) (n : ℕ) where
   unfit-move {w} {x} (ended-before h) = move-over whole n w x h
 
   -- the first choice of a list
-  pub moves-on : (w : Work) (x : ℕ) {v : Work} (cs : List ℕ) → move whole n w x ≡ outcome 0 v → moves whole n w (x ∷ cs) ≡ moves whole n v cs
+  moves-on : (w : Work) (x : ℕ) {v : Work} (cs : List ℕ) → move whole n w x ≡ outcome 0 v → moves whole n w (x ∷ cs) ≡ moves whole n v cs
   unfolding moves
   moves-on w x cs e = rw e refl
 
@@ -157,25 +157,6 @@ uncutting (lists-left wh v h e ok) g = two-goes-on g (inr (inr (ap (λ u. u .sta
 uncutting (in-two wh h b x l e) g = never _ wh refl
 uncutting (none-in-two wh h b x l e f) g = never _ wh refl
 uncutting (all-short wh h b short) g = never _ wh refl
-
-came-number : {whole : Bool} {n : ℕ} {w : Work} {cs : List ℕ} (o : Outcome) → Came whole n w cs o
-    → (o .refusal ≡ 0) ⊎ ((11 ≤ o .refusal) × (o .refusal ≤ 13))
-came-number o (all-made z m) = inl z
-came-number o (stopped earlier x later e m nz u) = inr (unfit-number u)
-
-came-not-12 : {n : ℕ} {w : Work} {cs : List ℕ} (o : Outcome) → Came false n w cs o → o .work-is .stage ≢ Cutting → o .refusal ≢ 12
-came-not-12 o (all-made z m) d e = omega arith
-came-not-12 o (stopped earlier x later f m nz u) d e = shorten-unfit u d e
-
-pub refusal-number : (whole : Bool) (n : ℕ) (t : Square) (cs : List ℕ)
-    → (worked whole n t cs .refusal ≡ 0) ⊎ ((11 ≤ worked whole n t cs .refusal) × (worked whole n t cs .refusal ≤ 13))
-refusal-number whole n t cs = rw (worked-refusal whole n t cs) (came-number _ (came whole n cs (begun whole n t)))
-
-pub not-twelve : (n : ℕ) (t : Square) (cs : List ℕ) → worked false n t cs .refusal ≢ 12
-not-twelve n t cs e =
-    let o : Outcome = moves false n (begun false n t) cs in
-    let arrived : Arrived false n t (o .work-is) = moves-arrive cs begun-arrives in
-    came-not-12 o (came false n cs (begun false n t)) (uncutting arrived) (sym (worked-refusal false n t cs) ∙ e)
 
 pub refusals : Refusals
 refusals whole n t cs = record {

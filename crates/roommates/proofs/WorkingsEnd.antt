@@ -26,7 +26,7 @@ use Rattle.roommates.proofs.EntryCounts.{entries-list, entries-bound, e
 use Rattle.roommates.proofs.FewProposals.{few-proposals}
 use Rattle.roommates.proofs.CutsStrike.{CutTo, cut-to, longer-two, cuts-shrunk}
 use Rattle.roommates.proofs.Stages.{Over}
-use Rattle.roommates.proofs.Arrivals.{by-test, move-one, move-two, move-over, ruled-one, ruled-two, move-arrives, moves-arrive, begun-arrives, worked-arrives}
+use Rattle.roommates.proofs.Arrivals.{by-test, move-one, move-two, move-over, ruled-one, ruled-two, move-arrives, moves-arrive, begun-arrives}
 
 -- each cut takes two entries
 cuts-few : {n : ℕ} {aside : List ℕ} {t u : Square} → Sound n t → (c : Cuts n aside t u) → 2 * cutsMade c + entryCount n u ≤ entryCount n t
@@ -169,6 +169,6 @@ module _ (whole : Bool) (n : ℕ) where
     worked-ends cs = carried-ends (moves whole n (begun whole n t) cs) (moves-arrive cs begun-arrives)
 
 pub trials-promise : TrialsPromise
-trials-promise n t promise cs v =
-    let kept = shrunk-promise promise (arrived-shrunk (promise-sound promise) (worked-arrives {whole = true} cs)) in
+trials-promise n t promise w a v =
+    let kept = shrunk-promise promise (arrived-shrunk (promise-sound promise) a) in
     shrunk-promise kept (strike-band-shrunk (promise-sound kept) v _)

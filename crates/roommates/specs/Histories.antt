@@ -12,7 +12,6 @@ use Rattle.sheet.specs.Square.{at, SquarePromise}
 use Rattle.roommates.specs.Lists.{Square, row, isListed, listLength}
 use Rattle.roommates.specs.PhaseOne.{Work, fresh, stands, waits}
 use Rattle.roommates.specs.PhaseTwo.{trialStart}
-use Rattle.roommates.specs.Moves.{settles}
 use Rattle.roommates.specs.Runs.{Run, stop, then, cutsMade, Arrived, in-one, none-in-one, lists-left, in-two, none-in-two, all-short}
 
 -- The history of a run: how many steps it makes; who makes step i, counted from 0 (n where there is none); the lists after i steps,
@@ -69,7 +68,7 @@ WaitsAsSaid = (n : ℕ) (t : Square) (w : Work) → SquarePromise n t → (run :
 
 -- The same in trials: the lists that one begins with keep the promise too.
 abbrev pub TrialsPromise : Type 0
-TrialsPromise = (n : ℕ) (t : Square) → SquarePromise n t → (cs : List ℕ) (v : ℕ) → SquarePromise n (trialStart n (settles n t cs .work-is .lists) v)
+TrialsPromise = (n : ℕ) (t : Square) → SquarePromise n t → (w : Work) → Arrived true n t w → (v : ℕ) → SquarePromise n (trialStart n (w .lists) v)
 
 -- A working counts its proposals, one for each joint reached: every run adds those that it makes, and a fresh working has none.
 abbrev pub ProposalsAdded : Type 0

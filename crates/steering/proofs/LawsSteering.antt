@@ -24,7 +24,7 @@ use Rattle.roommates.proofs.Arrivals.{begun-arrives}
 use Rattle.roommates.proofs.WorkingsEnd.{rule-moves, stays}
 use Rattle.roommates.proofs.RuleInOne.{phase-one-at-once, at-once-arrives}
 use Rattle.records.specs.declared.Record.{Record}
-use Rattle.records.specs.Records.{entry, recordsOf, acts, follows, started, isOdd, workedBy}
+use Rattle.records.specs.Records.{entry, recordsOf, acts, follows, started, workedBy}
 use Rattle.records.specs.Records as R
 use Rattle.stages.specs.declared.Place.{Place}
 use Rattle.stages.specs.Places.{workAt, outcomeAt, Stands}

@@ -1,6 +1,5 @@
 -- No mark is set.
 use Rattle.marks.proofs.LawsMarks.{begins-unmarked, begins-standing}
-use borrow.Author.Needs.{needs}
 use Rattle.marks.proofs.begin_marks.Statement.{statement}
 use Rattle.marks.proofs.begin_marks.Tie as tie
 

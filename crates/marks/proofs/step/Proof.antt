@@ -1,7 +1,6 @@
 -- A step.
 use Rattle.moves.proofs.LawsStanding.{few-joints, roomy}
 use Rattle.marks.proofs.LawsMarks.{steps-so, step-keeps}
-use borrow.Author.Needs.{needs}
 use Rattle.marks.proofs.step.Statement.{statement}
 use Rattle.marks.proofs.step.Tie as tie
 
