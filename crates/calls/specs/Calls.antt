@@ -32,31 +32,38 @@ pub record Says : Type 0 where
   pub count : ℕ
   pub bytes : List ℕ
 
--- SETTLE, for n joints with the lists t and a buffer of `room` bytes: 9 where it is shorter than n, then what is refused of the choices.
--- The result is the pairing where the working ended, and its count of pairs.
+-- SETTLE, for n joints and a buffer of `room` bytes, by what became of its working: 9 where the buffer is shorter than n, then what is refused
+-- of the choices. The result is the pairing where the working ended, and its count of pairs.
+abbrev pub settleOf : ℕ → ℕ → Outcome → Says
+settleOf n room o = record {
+  faults = when (ltb room n) 9 ∷ (o .refusal ∷ []);
+  verdict = o .work-is .stage;
+  count = pairCount (pairingOf n (o .work-is .lists));
+  bytes = pairingOf n (o .work-is .lists);
+}
+
+-- .. whose lists are t, with the choices cs
+abbrev pub settleSays : ℕ → Square → List ℕ → ℕ → Says
+settleSays n t cs room = settleOf n room (settlesBy n t cs)
+
 abbrev pub partnersOf : ℕ → Square → List ℕ → List ℕ
 partnersOf n t cs = pairingOf n (settlesBy n t cs .work-is .lists)
 
-abbrev pub settleSays : ℕ → Square → List ℕ → ℕ → Says
-settleSays n t cs room = record {
-  faults = when (ltb room n) 9 ∷ (settlesBy n t cs .refusal ∷ []);
-  verdict = settlesBy n t cs .work-is .stage;
-  count = pairCount (partnersOf n t cs);
-  bytes = partnersOf n t cs;
+-- SHORTEN, for n joints with m entries: 9 for a buffer shorter than 2 + 3 × m, then what is refused of the choices. The result is the lists where
+-- phase one ended, and their count of entries.
+abbrev pub shortenOf : ℕ → ℕ → ℕ → Outcome → Says
+shortenOf n m room o = record {
+  faults = when (ltb room (2 + 3 * m)) 9 ∷ (o .refusal ∷ []);
+  verdict = o .work-is .stage;
+  count = entryCount n (o .work-is .lists);
+  bytes = listBytes n (o .work-is .lists);
 }
-
--- SHORTEN, for n joints with m entries and the lists t: 9 for a buffer shorter than 2 + 3 × m, then what is refused of the choices.
--- The result is the lists where phase one ended, and their count of entries.
-abbrev pub leftOf : ℕ → Square → List ℕ → Square
-leftOf n t cs = shortensBy n t cs .work-is .lists
 
 abbrev pub shortenSays : ℕ → ℕ → Square → List ℕ → ℕ → Says
-shortenSays n m t cs room = record {
-  faults = when (ltb room (2 + 3 * m)) 9 ∷ (shortensBy n t cs .refusal ∷ []);
-  verdict = shortensBy n t cs .work-is .stage;
-  count = entryCount n (leftOf n t cs);
-  bytes = listBytes n (leftOf n t cs);
-}
+shortenSays n m t cs room = shortenOf n m room (shortensBy n t cs)
+
+abbrev pub leftOf : ℕ → Square → List ℕ → Square
+leftOf n t cs = shortensBy n t cs .work-is .lists
 
 -- .. for a sheet, whose own refusals come first
 abbrev pub onSheet : List ℕ → Says → Says

@@ -2,22 +2,19 @@
 use mathlib.Core.Path.{_≡_, sym, _∙_, ap}
 use mathlib.Core.Bool.{Bool, true, false}
 use mathlib.Core.List.{List, [], _∷_}
-use Prim.Native.Nat.{ℕ, _+_, _*_}
-use lib.Dec.{ltb}
+use Prim.Native.Nat.{ℕ}
 use lib.ListN.{length}
-use Rattle.base.specs.Faults.{when, firstFault}
+use Rattle.base.specs.Faults.{firstFault}
 use Rattle.base.proofs.Faults.{first-none, last-fault}
 use Rattle.sheet.specs.Format.{joints, rankCount}
 use Rattle.sheet.specs.Refusals.{sheetFault}
 use Rattle.sheet.specs.Square.{squareOf}
-use Rattle.matching.specs.Matchings.{pairCount}
 use Rattle.roommates.specs.Moves.{Outcome}
-use Rattle.roommates.specs.Left.{pairingOf, entryCount, listBytes}
 use Rattle.records.specs.Records.{recordsOf, workedBy}
 use Rattle.records.specs.Standing.{standing}
 use Rattle.records.proofs.RecordDemands.{bytes-replayed, steps-replayed}
 use Rattle.records.proofs.RecordRefusals.{record-refusals}
-use Rattle.calls.specs.Calls.{Says, onSheet, settledNumber, settledBy, settleAnswer, settleBytes, shortenedNumber, shortenedBy, shortenAnswer, shortenBytes}
+use Rattle.calls.specs.Calls.{Says, onSheet, settleOf, shortenOf, settledNumber, settledBy, settleAnswer, settleBytes, shortenedNumber, shortenedBy, shortenAnswer, shortenBytes}
 use Rattle.calls.specs.Calls.{leftBy, endCounts, countsAs, countsOf}
 use Rattle.promises.specs.Claims.{standingBytes, CallsReplayed}
 use Rattle.promises.proofs.SettleKeeps.{counts-number, settle-ran, settle-unrefused}
@@ -29,34 +26,19 @@ module _ (s cs : List ℕ) where
   same whole z =
       bytes-replayed whole (joints s) (squareOf s) cs z ∙ sym (steps-replayed whole (joints s) (squareOf s) (standing (recordsOf cs)))
 
-  -- what the calls say goes by what becomes of their working
-  abbrev settleOf : ℕ → Outcome → Says
-  settleOf room o = onSheet s record {
-    faults = when (ltb room (joints s)) 9 ∷ (o .refusal ∷ []);
-    verdict = o .work-is .stage;
-    count = pairCount (pairingOf (joints s) (o .work-is .lists));
-    bytes = pairingOf (joints s) (o .work-is .lists);
-  }
-
-  abbrev shortenOf : ℕ → Outcome → Says
-  shortenOf room o = onSheet s record {
-    faults = when (ltb room (2 + 3 * rankCount s)) 9 ∷ (o .refusal ∷ []);
-    verdict = o .work-is .stage;
-    count = entryCount (joints s) (o .work-is .lists);
-    bytes = listBytes (joints s) (o .work-is .lists);
-  }
-
   settle-replayed : (out : List ℕ) → settledNumber (settleAnswer s cs out) ≡ 0
       → (settleAnswer s cs out ≡ settleAnswer s (standingBytes cs) out) × (settleBytes s cs out ≡ settleBytes s (standingBytes cs) out)
   settle-replayed out h =
       let e = same true (settle-ran s cs out (settle-unrefused s cs out h) .2) in
-      (ap (λ (o : Outcome). settledBy (settleOf (length out) o)) e, ap (λ (o : Outcome). leftBy (settleOf (length out) o) out) e)
+      let says : Outcome → Says = λ o. onSheet s (settleOf (joints s) (length out) o) in
+      (ap (λ (o : Outcome). settledBy (says o)) e, ap (λ (o : Outcome). leftBy (says o) out) e)
 
   shorten-replayed : (out : List ℕ) → shortenedNumber (shortenAnswer s cs out) ≡ 0
       → (shortenAnswer s cs out ≡ shortenAnswer s (standingBytes cs) out) × (shortenBytes s cs out ≡ shortenBytes s (standingBytes cs) out)
   shorten-replayed out h =
       let e = same false (shorten-ran s cs out (shorten-unrefused s cs out h) .2) in
-      (ap (λ (o : Outcome). shortenedBy (shortenOf (length out) o)) e, ap (λ (o : Outcome). leftBy (shortenOf (length out) o) out) e)
+      let says : Outcome → Says = λ o. onSheet s (shortenOf (joints s) (rankCount s) (length out) o) in
+      (ap (λ (o : Outcome). shortenedBy (says o)) e, ap (λ (o : Outcome). leftBy (says o) out) e)
 
   counts-replayed : (whole : Bool) → countsOf whole s cs .number ≡ 0 → countsOf whole s cs ≡ countsOf whole s (standingBytes cs)
   counts-replayed whole h =

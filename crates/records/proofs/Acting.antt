@@ -10,7 +10,7 @@ use Rattle.roommates.specs.PhaseOne.{Work}
 use Rattle.roommates.specs.Moves.{outcome, move}
 use Rattle.roommates.proofs.ChoicesRefused.{Tried, fit-step, fit-cut, unfit, tried, unfit-move, unfit-number}
 use Rattle.records.specs.declared.Record.{Record}
-use Rattle.records.specs.Records.{entry, Mark, unset, saved, Marked, marked, withMark, acted, stepped, markSet, restored, returnedTo, acts}
+use Rattle.records.specs.Records.{recordOf, Mark, unset, saved, Marked, marked, withMark, acted, stepped, markSet, restored, returnedTo, acts}
 use Rattle.records.specs.Claims.{UnfitRecord, unfit-step, no-kind, no-mark, not-set}
 
 -- is a mark set?
@@ -30,27 +30,27 @@ unfit-record-number (not-set e h) = (omega arith, omega arith)
 
 module _ (whole : Bool) (n : ℕ) where
   -- By kind.
-  acts-step : (s : Marked) (x : ℕ) {k : ℕ} {v : Work} → move whole n (s .working) x ≡ outcome k v → acts whole n s (entry 0 x) ≡ acted k (marked v (s .marks))
+  acts-step : (s : Marked) (x : ℕ) {k : ℕ} {v : Work} → move whole n (s .working) x ≡ outcome k v → acts whole n s (recordOf 0 x) ≡ acted k (marked v (s .marks))
   unfolding acts stepped
   acts-step s x e = rw e refl
 
-  acts-mark : (s : Marked) (m : ℕ) → m < 8 → acts whole n s (entry 1 m) ≡ acted 0 (marked (s .working) (withMark m (s .working) (s .marks)))
+  acts-mark : (s : Marked) (m : ℕ) → m < 8 → acts whole n s (recordOf 1 m) ≡ acted 0 (marked (s .working) (withMark m (s .working) (s .marks)))
   unfolding acts markSet
   acts-mark s m l = rw (lt-ltb m 8 l) refl
 
-  acts-unmarked : (s : Marked) (m : ℕ) → 8 ≤ m → acts whole n s (entry 1 m) ≡ acted 15 s
+  acts-unmarked : (s : Marked) (m : ℕ) → 8 ≤ m → acts whole n s (recordOf 1 m) ≡ acted 15 s
   unfolding acts markSet
   acts-unmarked s m l = rw (le-ltb m 8 l) refl
 
-  acts-return : (s : Marked) (m : ℕ) → m < 8 → acts whole n s (entry 2 m) ≡ restored s (s .marks m)
+  acts-return : (s : Marked) (m : ℕ) → m < 8 → acts whole n s (recordOf 2 m) ≡ restored s (s .marks m)
   unfolding acts returnedTo
   acts-return s m l = rw (lt-ltb m 8 l) refl
 
-  acts-nowhere : (s : Marked) (m : ℕ) → 8 ≤ m → acts whole n s (entry 2 m) ≡ acted 15 s
+  acts-nowhere : (s : Marked) (m : ℕ) → 8 ≤ m → acts whole n s (recordOf 2 m) ≡ acted 15 s
   unfolding acts returnedTo
   acts-nowhere s m l = rw (le-ltb m 8 l) refl
 
-  acts-otherwise : (s : Marked) (k x : ℕ) → acts whole n s (entry (suc (suc (suc k))) x) ≡ acted 14 s
+  acts-otherwise : (s : Marked) (k x : ℕ) → acts whole n s (recordOf (suc (suc (suc k))) x) ≡ acted 14 s
   unfolding acts
   acts-otherwise s k x = refl
 
@@ -61,10 +61,10 @@ module _ (whole : Bool) (n : ℕ) where
     does-return : {w : Work} → r .kind ≡ 2 → s .marks (r .number) ≡ saved w → acts whole n s r ≡ acted 0 (marked w (s .marks)) → Does s r
     does-nothing : {k : ℕ} → UnfitRecord n (s .working) (isSetIn s) r k → acts whole n s r ≡ acted k s → Does s r
 
-  does-kind : (s : Marked) (k x : ℕ) → Does s (entry k x)
+  does-kind : (s : Marked) (k x : ℕ) → Does s (recordOf k x)
   does-kind s zero x = by-choice (tried whole n (s .working) x)
     where
-      by-choice : Tried whole n (s .working) x → Does s (entry 0 x)
+      by-choice : Tried whole n (s .working) x → Does s (recordOf 0 x)
       by-choice (fit-step h l e m) = does-step refl m (acts-step s x m)
       by-choice (fit-cut h l e m) = does-step refl m (acts-step s x m)
       by-choice (unfit k d u m) = does-nothing (unfit-step refl u) (acts-step s x m)
@@ -73,7 +73,7 @@ module _ (whole : Bool) (n : ℕ) where
   does-kind s (suc (suc zero)) m =
       case (lt-ge m 8) (λ l. by-mark (s .marks m) refl (acts-return s m l)) (λ l. does-nothing (no-mark (inr refl) l) (acts-nowhere s m l))
     where
-      by-mark : (a : Mark) → s .marks m ≡ a → acts whole n s (entry 2 m) ≡ restored s (s .marks m) → Does s (entry 2 m)
+      by-mark : (a : Mark) → s .marks m ≡ a → acts whole n s (recordOf 2 m) ≡ restored s (s .marks m) → Does s (recordOf 2 m)
       by-mark unset e h = does-nothing (not-set refl (ap isSaved e)) (h ∙ ap (restored s) e)
       by-mark (saved w) e h = does-return refl e (h ∙ ap (restored s) e)
   does-kind s (suc (suc (suc k))) x = does-nothing (no-kind (omega arith)) (acts-otherwise s k x)
@@ -85,14 +85,14 @@ module _ (whole : Bool) (n : ℕ) where
   pub unfit-acts : {s : Marked} {r : Record} {k : ℕ} → UnfitRecord n (s .working) (isSetIn s) r k → acts whole n s r ≡ acted k s
   unfit-acts {s} {r} u = go (r .kind) (r .number) u
     where
-      go : (i x : ℕ) {k : ℕ} → UnfitRecord n (s .working) (isSetIn s) (entry i x) k → acts whole n s (entry i x) ≡ acted k s
-      go i x (unfit-step e u) = ap (λ j. acts whole n s (entry j x)) e ∙ acts-step s x (unfit-move whole n u)
+      go : (i x : ℕ) {k : ℕ} → UnfitRecord n (s .working) (isSetIn s) (recordOf i x) k → acts whole n s (recordOf i x) ≡ acted k s
+      go i x (unfit-step e u) = ap (λ j. acts whole n s (recordOf j x)) e ∙ acts-step s x (unfit-move whole n u)
       go i x (no-mark e l) =
           case e
-          (λ e. ap (λ j. acts whole n s (entry j x)) e ∙ acts-unmarked s x l)
-          (λ e. ap (λ j. acts whole n s (entry j x)) e ∙ acts-nowhere s x l)
+          (λ e. ap (λ j. acts whole n s (recordOf j x)) e ∙ acts-unmarked s x l)
+          (λ e. ap (λ j. acts whole n s (recordOf j x)) e ∙ acts-nowhere s x l)
       go i x (not-set e h) =
-          ap (λ j. acts whole n s (entry j x)) e
+          ap (λ j. acts whole n s (recordOf j x)) e
           ∙ case (lt-ge x 8) (λ l. acts-return s x l ∙ by-mark (s .marks x) h) (λ l. acts-nowhere s x l)
         where
           by-mark : (a : Mark) → isSaved a ≡ false → restored s a ≡ acted 15 s

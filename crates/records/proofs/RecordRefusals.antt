@@ -17,7 +17,7 @@ use Rattle.roommates.proofs.Sound.{promise-sound}
 use Rattle.roommates.proofs.Stages.{one-goes-on, two-goes-on}
 use Rattle.roommates.proofs.ChoicesRefused.{carried-refusal, carried-stopped, shorten-unfit, uncutting}
 use Rattle.records.specs.declared.Record.{Record}
-use Rattle.records.specs.Records.{entry, recordsOf, Marked, follows, started, isOdd, workedBy}
+use Rattle.records.specs.Records.{recordOf, recordsOf, Marked, follows, started, isOdd, workedBy}
 use Rattle.records.specs.Standing.{isSetBy, standing}
 use Rattle.records.specs.Claims.{UnfitRecord, unfit-step, no-kind, no-mark, not-set, RecordRefused, BytesRefused, odd-bytes, by-record, RecordRefusals}
 use Rattle.records.proofs.Acting.{isSetIn, unfit-record-number, unfit-acts}
@@ -43,7 +43,7 @@ records-append : (bytes later : List ℕ) → isOdd (length bytes) ≡ false →
 unfolding recordsOf
 records-append [] later h = refl
 records-append (k ∷ []) later h = absurd (never _ refl h)
-records-append (k ∷ (x ∷ bytes)) later h = ap (λ l. entry k x ∷ l) (records-append bytes later (two-fewer (length bytes) h))
+records-append (k ∷ (x ∷ bytes)) later h = ap (λ l. recordOf k x ∷ l) (records-append bytes later (two-fewer (length bytes) h))
 
 module _ (whole : Bool) (n : ℕ) (t : Square) where
   abbrev start : Marked

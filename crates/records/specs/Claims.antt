@@ -14,8 +14,17 @@ use Rattle.roommates.specs.PhaseOne.{Work}
 use Rattle.roommates.specs.Moves.{begun, outcome, moves, worked}
 use Rattle.roommates.specs.Claims.{stageOf, Settled, Unfit}
 use Rattle.records.specs.declared.Record.{Record}
-use Rattle.records.specs.Records.{recordsOf, follows, started, isOdd, workedBy, settlesBy, shortensBy}
+use Rattle.records.specs.Records.{recordOf, recordsOf, follows, started, isOdd, workedBy, settlesBy, shortensBy}
 use Rattle.records.specs.Standing.{isSetBy, standing, stepBytes}
+
+-- WHICH STEPS STAND, in the request's words. A step follows those that stand, a mark changes none, and after a return those stand that stood at the
+-- last setting of its mark.
+pub record StandingSaid : Type 0 where
+  pub at-first : standing [] ≡ []
+  pub after-step : (rs : List Record) (x : ℕ) → standing (rs ++ (recordOf 0 x ∷ [])) ≡ standing rs ++ (x ∷ [])
+  pub after-mark : (rs : List Record) (m : ℕ) → standing (rs ++ (recordOf 1 m ∷ [])) ≡ standing rs
+  pub after-return : (earlier later : List Record) (m : ℕ) → isSetBy later m ≡ false
+      → standing (earlier ++ (recordOf 1 m ∷ (later ++ (recordOf 2 m ∷ [])))) ≡ standing earlier
 
 -- THE STEPS STANDING. After any records, refused ones among them, the working equals a fresh one after the steps standing, in order. Those are
 -- of the records before the first refused one; of all where none is. Both counts are the working's own, so they are of those steps.

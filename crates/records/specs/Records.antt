@@ -9,14 +9,14 @@ use Rattle.roommates.specs.PhaseOne.{Work}
 use Rattle.roommates.specs.Moves.{begun, Outcome, outcome, move, carriedOut}
 use Rattle.records.specs.declared.Record.{Record}
 
-abbrev pub entry : ℕ → ℕ → Record
-entry k x = record { kind = k; number = x }
+-- a record of kind k with the number x; the records of bytes, two by two
+abbrev pub recordOf : ℕ → ℕ → Record
+recordOf k x = record { kind = k; number = x }
 
--- the bytes two by two
 unfoldable pub recordsOf : List ℕ → List Record
 recordsOf [] = []
 recordsOf (k ∷ []) = []
-recordsOf (k ∷ (x ∷ bytes)) = entry k x ∷ recordsOf bytes
+recordsOf (k ∷ (x ∷ bytes)) = recordOf k x ∷ recordsOf bytes
 
 -- A MARK is not set, or has saved a working. A working stands beside its marks.
 pub data Mark : Type 0 where

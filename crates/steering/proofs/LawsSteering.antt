@@ -24,7 +24,7 @@ use Rattle.roommates.proofs.Arrivals.{begun-arrives}
 use Rattle.roommates.proofs.WorkingsEnd.{rule-moves, stays}
 use Rattle.roommates.proofs.RuleInOne.{phase-one-at-once, at-once-arrives}
 use Rattle.records.specs.declared.Record.{Record}
-use Rattle.records.specs.Records.{entry, recordsOf, acts, follows, started, workedBy}
+use Rattle.records.specs.Records.{recordOf, recordsOf, acts, follows, started, workedBy}
 use Rattle.records.specs.Records as R
 use Rattle.stages.specs.declared.Place.{Place}
 use Rattle.stages.specs.Places.{workAt, outcomeAt, Stands}
@@ -59,7 +59,7 @@ rule-more whole n f w = refl
 
 -- THE RECORDS: the i-th, and those after it
 abbrev recordAt : List ℕ → ℕ → Record
-recordAt cs i = entry (getD cs (2 * i) 0) (getD cs (2 * i + 1) 0)
+recordAt cs i = recordOf (getD cs (2 * i) 0) (getD cs (2 * i + 1) 0)
 
 records-from : (cs : List ℕ) (i : ℕ) → 2 * i + 1 < length cs → recordsOf (drop (2 * i) cs) ≡ recordAt cs i ∷ recordsOf (drop (2 * (i + 1)) cs)
 unfolding recordsOf
