@@ -16,11 +16,11 @@ use Rattle.records.specs.declared.Record.{Record}
 use Rattle.records.specs.Records as R
 use Rattle.stages.specs.declared.Place.{Place}
 use Rattle.stages.specs.Places.{workAt, outcomeAt, Ruled}
-use Rattle.moves.specs.Standing.{Standing}
-use Rattle.moves.proofs.LawsStanding.{stands-on}
-use Rattle.marks.specs.declared.Mark.{Mark}
-use Rattle.marks.specs.declared.Marked.{Marked}
-use Rattle.marks.specs.Marks.{withSaved, withPlace, markIn, markAt, marksAt, markedAt, actedAt, Unrefused, AllStand, KeepStanding}
+use Rattle.moves.specs.Lawful.{Lawful}
+use Rattle.moves.proofs.LawsLawful.{lawful-on}
+use Rattle.marks.specs.declared.MarkPlace.{MarkPlace}
+use Rattle.marks.specs.declared.MarkedPlace.{MarkedPlace}
+use Rattle.marks.specs.Marks.{withSaved, withPlace, markIn, markAt, marksAt, markedAt, actedAt, Unrefused, AllLawful, KeepLawful}
 
 -- an element that is there, whatever stands for one that is not
 pub there : {A : Type 0} (l : List A) (i : ℕ) (d e : A) → i < length l → getD l i d ≡ getD l i e
@@ -30,7 +30,7 @@ there (x ∷ l) (suc i) d e h = there l i d e (omega arith)
 
 -- NO MARK SET
 module _ (g : Place) where
-  abbrev fresh : Marked
+  abbrev fresh : MarkedPlace
   fresh = record { place = g; marks = replicate 8 record { set = false; place = g } }
 
   none-set : (k m : ℕ) → markIn (replicate k record { set = false; place = g }) m .set ≡ false
@@ -43,15 +43,15 @@ module _ (g : Place) where
   begins-unmarked t saved =
       ap (R.marked (workAt t g)) (fun-ext (λ m. ap (λ b. cond b (R.saved (workAt (getD saved m []) (markIn (fresh .marks) m .place))) R.unset) (none-set 8 m)))
 
-  pub begins-standing : (whole : Bool) (n : ℕ) (t : Square) (saved : List Square) → Standing whole n t g → length saved ≡ 8 → AllStand whole n t saved fresh
-  begins-standing whole n t saved s e = record {
-    stands = s;
-    marks-stand = λ m l h. absurd (never _ h (none-set 8 m));
+  pub begins-lawful : (whole : Bool) (n : ℕ) (t : Square) (saved : List Square) → Lawful whole n t g → length saved ≡ 8 → AllLawful whole n t saved fresh
+  begins-lawful whole n t saved s e = record {
+    lawful = s;
+    marks-lawful = λ m l h. absurd (never _ h (none-set 8 m));
     eight-saved = e;
     eight-marks = refl;
   }
 
-module _ (t : Square) (saved : List Square) (s : Marked) where
+module _ (t : Square) (saved : List Square) (s : MarkedPlace) where
   abbrev before-it : R.Marked
   before-it = markedAt t saved s
 
@@ -60,7 +60,7 @@ module _ (t : Square) (saved : List Square) (s : Marked) where
   says-refused g e = ap (λ (o : Outcome). R.acted (o .refusal) (R.marked (o .work-is) (marksAt saved (s .marks)))) e
 
   -- a state that is refused does not stand
-  pub refused-keeps : {k : ℕ} (r : Marked) (whole : Bool) (n : ℕ) → actedAt t saved r ≡ R.acted (suc k) before-it → KeepStanding whole n t saved s t saved r
+  pub refused-keeps : {k : ℕ} (r : MarkedPlace) (whole : Bool) (n : ℕ) → actedAt t saved r ≡ R.acted (suc k) before-it → KeepLawful whole n t saved s t saved r
   refused-keeps r whole n e all z = let i = ap (λ (a : R.Acted). a .refusal) e in absurd (omega arith)
 
   -- A STEP
@@ -69,17 +69,17 @@ module _ (t : Square) (saved : List Square) (s : Marked) where
     unfolding R.stepped
     steps-so = ap (λ (o : Outcome). R.acted (o .refusal) (R.marked (o .work-is) (marksAt saved (s .marks)))) e
 
-    pub step-keeps : (Ruled n t (s .place) → Ruled n t′ g) → KeepStanding whole n t saved s t′ saved (withPlace g s)
+    pub step-keeps : (Ruled n t (s .place) → Ruled n t′ g) → KeepLawful whole n t saved s t′ saved (withPlace g s)
     step-keeps keeps all z = record {
-      stands = stands-on (all .stands) g x e keeps z;
-      marks-stand = all .marks-stand;
+      lawful = lawful-on (all .lawful) g x e keeps z;
+      marks-lawful = all .marks-lawful;
       eight-saved = all .eight-saved;
       eight-marks = all .eight-marks;
     }
 
   -- A MARK
   module _ (m : ℕ) where
-    pub no-mark-set : (r : Marked) → 8 ≤ m → actedAt t saved r ≡ R.acted 15 before-it → actedAt t saved r ≡ R.markSet before-it m
+    pub no-mark-set : (r : MarkedPlace) → 8 ≤ m → actedAt t saved r ≡ R.acted 15 before-it → actedAt t saved r ≡ R.markSet before-it m
     unfolding R.markSet
     no-mark-set r l e = e ∙ sym (ap (λ b. cond b (R.acted 0 (R.marked (before-it .working) (R.withMark m (before-it .working) (before-it .marks)))) (R.acted 15 before-it)) (le-ltb m 8 l))
 
@@ -116,23 +116,23 @@ module _ (t : Square) (saved : List Square) (s : Marked) where
           ∙ ap (λ (f : ℕ → R.Mark). R.acted 0 (R.marked (workAt t (s .place)) f)) (fun-ext marks-set)
           ∙ sym (ap (λ b. cond b (R.acted 0 (R.marked (before-it .working) (R.withMark m (before-it .working) (before-it .marks)))) (R.acted 15 before-it)) (lt-ltb m 8 l))
 
-      pub mark-keeps : (whole : Bool) (n : ℕ) → KeepStanding whole n t saved s t (set saved m t) (withSaved m s)
+      pub mark-keeps : (whole : Bool) (n : ℕ) → KeepLawful whole n t saved s t (set saved m t) (withSaved m s)
       mark-keeps whole n all z = record {
-        stands = all .stands;
-        marks-stand = λ i k h.
+        lawful = all .lawful;
+        marks-lawful = λ i k h.
             case (eq-ne i m)
-            (λ e. at i (sym (same-saved i e)) (sym (same-mark i e)) (all .stands))
-            (λ d. at i (sym (other-saved i d)) (sym (other-mark i d)) (all .marks-stand i k (ap (λ (x : Mark). x .set) (sym (other-mark i d)) ∙ h)));
+            (λ e. at i (sym (same-saved i e)) (sym (same-mark i e)) (all .lawful))
+            (λ d. at i (sym (other-saved i d)) (sym (other-mark i d)) (all .marks-lawful i k (ap (λ (x : MarkPlace). x .set) (sym (other-mark i d)) ∙ h)));
         eight-saved = length-set saved m t ∙ eight-saved;
         eight-marks = length-set (s .marks) m _ ∙ eight-marks;
       }
         where
-          at : (i : ℕ) {u : Square} {x : Mark} → u ≡ getD (set saved m t) i [] → x ≡ markIn (withSaved m s .marks) i → Standing whole n u (x .place)
-              → Standing whole n (getD (set saved m t) i []) (markIn (withSaved m s .marks) i .place)
-          at i {u} {x} eu ex st = subst (λ (x : Mark). Standing whole n (getD (set saved m t) i []) (x .place)) ex (subst (λ (v : Square). Standing whole n v (x .place)) eu st)
+          at : (i : ℕ) {u : Square} {x : MarkPlace} → u ≡ getD (set saved m t) i [] → x ≡ markIn (withSaved m s .marks) i → Lawful whole n u (x .place)
+              → Lawful whole n (getD (set saved m t) i []) (markIn (withSaved m s .marks) i .place)
+          at i {u} {x} eu ex st = subst (λ (x : MarkPlace). Lawful whole n (getD (set saved m t) i []) (x .place)) ex (subst (λ (v : Square). Lawful whole n v (x .place)) eu st)
 
     -- A RETURN
-    pub nowhere-to : (r : Marked) → 8 ≤ m → actedAt t saved r ≡ R.acted 15 before-it → actedAt t saved r ≡ R.returnedTo before-it m
+    pub nowhere-to : (r : MarkedPlace) → 8 ≤ m → actedAt t saved r ≡ R.acted 15 before-it → actedAt t saved r ≡ R.returnedTo before-it m
     unfolding R.returnedTo
     nowhere-to r l e = e ∙ sym (ap (λ b. cond b (R.restored before-it (marksAt saved (s .marks) m)) (R.acted 15 before-it)) (le-ltb m 8 l))
 
@@ -143,28 +143,28 @@ module _ (t : Square) (saved : List Square) (s : Marked) where
           ap (λ b. cond b (R.restored before-it (marksAt saved (s .marks) m)) (R.acted 15 before-it)) (lt-ltb m 8 l) ∙ ap (R.restored before-it) e
 
       -- the mark that was read
-      module _ (x : Mark) (is : x ≡ markIn (s .marks) m) where
+      module _ (x : MarkPlace) (is : x ≡ markIn (s .marks) m) where
         mark-is : {b : Bool} → x .set ≡ b → marksAt saved (s .marks) m ≡ cond b (R.saved (workAt (getD saved m []) (markIn (s .marks) m .place))) R.unset
         unfolding marksAt
-        mark-is h = ap (λ b. cond b (R.saved (workAt (getD saved m []) (markIn (s .marks) m .place))) R.unset) (sym (ap (λ (y : Mark). y .set) is) ∙ h)
+        mark-is h = ap (λ b. cond b (R.saved (workAt (getD saved m []) (markIn (s .marks) m .place))) R.unset) (sym (ap (λ (y : MarkPlace). y .set) is) ∙ h)
 
-        pub not-set-to : (r : Marked) → x .set ≡ false → actedAt t saved r ≡ R.acted 15 before-it → actedAt t saved r ≡ R.returnedTo before-it m
+        pub not-set-to : (r : MarkedPlace) → x .set ≡ false → actedAt t saved r ≡ R.acted 15 before-it → actedAt t saved r ≡ R.returnedTo before-it m
         not-set-to r h e = e ∙ sym (restored-is (mark-is h))
 
         module _ (h : x .set ≡ true) where
           set-there : markIn (s .marks) m .set ≡ true
-          set-there = sym (ap (λ (y : Mark). y .set) is) ∙ h
+          set-there = sym (ap (λ (y : MarkPlace). y .set) is) ∙ h
 
           pub returns-so : Unrefused s → actedAt (getD saved m []) saved (withPlace (x .place) s) ≡ R.returnedTo before-it m
           returns-so un =
-              ap (λ (y : Mark). actedAt (getD saved m []) saved (withPlace (y .place) s)) is
+              ap (λ (y : MarkPlace). actedAt (getD saved m []) saved (withPlace (y .place) s)) is
               ∙ ap (λ k. R.acted k (R.marked (workAt (getD saved m []) (markIn (s .marks) m .place)) (marksAt saved (s .marks)))) (un m l set-there)
               ∙ sym (restored-is (mark-is h))
 
-          pub return-keeps : (whole : Bool) (n : ℕ) → KeepStanding whole n t saved s (getD saved m []) saved (withPlace (x .place) s)
+          pub return-keeps : (whole : Bool) (n : ℕ) → KeepLawful whole n t saved s (getD saved m []) saved (withPlace (x .place) s)
           return-keeps whole n all z = record {
-            stands = subst (λ (y : Mark). Standing whole n (getD saved m []) (y .place)) (sym is) (all .marks-stand m l set-there);
-            marks-stand = all .marks-stand;
+            lawful = subst (λ (y : MarkPlace). Lawful whole n (getD saved m []) (y .place)) (sym is) (all .marks-lawful m l set-there);
+            marks-lawful = all .marks-lawful;
             eight-saved = all .eight-saved;
             eight-marks = all .eight-marks;
           }

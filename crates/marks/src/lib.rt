@@ -12,49 +12,55 @@ ghost use lib.ListN.{length, set};
 ghost use Rattle.roommates.specs.Lists.{Square};
 ghost use Rattle.records.specs.Records.{acted, stepped, markSet, returnedTo, acts, marked, unmarked};
 ghost use Rattle.stages.specs.Places.{workAt};
-ghost use Rattle.moves.specs.Standing.{Standing};
-ghost use Rattle.marks.specs.Marks.{withSaved, withPlace, markedAt, actedAt, Unrefused, AllStand, KeepStanding};
+ghost use Rattle.moves.specs.Lawful.{Lawful};
+ghost use Rattle.marks.specs.Marks.{withSaved, withPlace, markedAt, actedAt, Unrefused, AllLawful, KeepLawful};
 
 // Whether a mark is set, and where the working stood when it was, beside its lists.
-pub struct Mark {
+pub struct MarkPlace {
     pub set: bool,
     pub place: Place,
 }
 
 // Where a working stands, and its marks.
-pub struct Marked {
+pub struct MarkedPlace {
     pub place: Place,
-    pub marks: [Mark; 8],
+    pub marks: [MarkPlace; 8],
 }
 
 // A working with no mark set.
-pub fn begin_marks(place: Place) -> Marked
+pub fn begin_marks(place: Place) -> MarkedPlace
     ensures { λ r. ⌜ ((t : Square) (saved : List Square) → markedAt t saved r ≡ marked (workAt t place) unmarked) ⌝ }
-    ensures { λ r. ⌜ ((whole : Bool) (n : ℕ) (t : Square) (saved : List Square) → Standing whole n t place → length saved ≡ 8 → AllStand whole n t saved r) ⌝ }
+    ensures { λ r. ⌜ ((whole : Bool) (n : ℕ) (t : Square) (saved : List Square) → Lawful whole n t place → length saved ≡ 8 → AllLawful whole n t saved r) ⌝ }
 {
-    let mark = Mark { set: false, place };
+    let mark = MarkPlace { set: false, place };
     let marks = [mark; 8];
-    Marked { place, marks }
+    MarkedPlace { place, marks }
 }
 
 // The record is refused, with this number.
-fn refuse_record(state: Marked, k: u8) -> Marked
+fn refuse_record(state: MarkedPlace, k: u8) -> MarkedPlace
     ensures { λ r. ⌜ ((t : Square) (saved : List Square) → actedAt t saved r ≡ acted k (markedAt t saved state)) ⌝ }
 {
     let place = refuse(state.place, k);
     let marks = state.marks;
-    Marked { place, marks }
+    MarkedPlace { place, marks }
 }
 
 // Joint x is chosen.
-fn step(n: usize, lists: &mut [[u8; 128]; 128], state: Marked, x: usize, whole: bool) -> Marked
-    requires { ⌜ Standing whole n (now lists) (state .place) ⌝ }
+fn step(
+    n: usize,
+    lists: &mut [[u8; 128]; 128],
+    state: MarkedPlace,
+    x: usize,
+    whole: bool,
+) -> MarkedPlace
+    requires { ⌜ Lawful whole n (now lists) (state .place) ⌝ }
     ensures { λ r. ⌜ ((saved : List Square) → actedAt (now (lists .exit)) saved r ≡ stepped whole n (markedAt (now (lists .entry)) saved state) x) ⌝ }
-    ensures { λ r. ⌜ ((saved : List Square) → KeepStanding whole n (now (lists .entry)) saved state (now (lists .exit)) saved r) ⌝ }
+    ensures { λ r. ⌜ ((saved : List Square) → KeepLawful whole n (now (lists .entry)) saved state (now (lists .exit)) saved r) ⌝ }
 {
     let place = make_move(n, lists, state.place, x, whole);
     let marks = state.marks;
-    Marked { place, marks }
+    MarkedPlace { place, marks }
 }
 
 // The working goes into mark m, in place of what was there: its lists, and where it stands.
@@ -62,8 +68,8 @@ fn save(
     m: usize,
     lists: &[[u8; 128]; 128],
     saved: &mut [[[u8; 128]; 128]; 8],
-    state: Marked,
-) -> Marked
+    state: MarkedPlace,
+) -> MarkedPlace
     requires { ⌜ m < 8 ⌝ }
     ensures { λ r. ⌜ now (saved .exit) ≡ set (now (saved .entry)) m (now (lists .entry)) ⌝ }
     ensures { λ r. ⌜ r ≡ withSaved m state ⌝ }
@@ -71,8 +77,8 @@ fn save(
     saved[m] = *lists;
     let place = state.place;
     let mut marks = state.marks;
-    marks[m] = Mark { set: true, place };
-    Marked { place, marks }
+    marks[m] = MarkPlace { set: true, place };
+    MarkedPlace { place, marks }
 }
 
 // Mark m is set.
@@ -80,11 +86,11 @@ fn set_mark(
     m: usize,
     lists: &[[u8; 128]; 128],
     saved: &mut [[[u8; 128]; 128]; 8],
-    state: Marked,
-) -> Marked
+    state: MarkedPlace,
+) -> MarkedPlace
     requires { ⌜ (state .place .refusal ≡ 0) × ((length (now saved) ≡ 8) × (length (state .marks) ≡ 8)) ⌝ }
     ensures { λ r. ⌜ actedAt (now (lists .entry)) (now (saved .exit)) r ≡ markSet (markedAt (now (lists .entry)) (now (saved .entry)) state) m ⌝ }
-    ensures { λ r. ⌜ ((whole : Bool) (n : ℕ) → KeepStanding whole n (now (lists .entry)) (now (saved .entry)) state (now (lists .entry)) (now (saved .exit)) r) ⌝ }
+    ensures { λ r. ⌜ ((whole : Bool) (n : ℕ) → KeepLawful whole n (now (lists .entry)) (now (saved .entry)) state (now (lists .entry)) (now (saved .exit)) r) ⌝ }
 {
     if 8 <= m {
         return refuse_record(state, 15);
@@ -93,12 +99,12 @@ fn set_mark(
 }
 
 // The working of a mark, beside the marks as they are.
-fn restore(mark: Mark, state: Marked) -> Marked
+fn restore(mark: MarkPlace, state: MarkedPlace) -> MarkedPlace
     ensures { λ r. ⌜ r ≡ withPlace (mark .place) state ⌝ }
 {
     let place = mark.place;
     let marks = state.marks;
-    Marked { place, marks }
+    MarkedPlace { place, marks }
 }
 
 // The working is again as it was when mark m was last set.
@@ -106,11 +112,11 @@ fn return_to(
     m: usize,
     lists: &mut [[u8; 128]; 128],
     saved: &[[[u8; 128]; 128]; 8],
-    state: Marked,
-) -> Marked
+    state: MarkedPlace,
+) -> MarkedPlace
     requires { ⌜ Unrefused state × (length (state .marks) ≡ 8) ⌝ }
     ensures { λ r. ⌜ actedAt (now (lists .exit)) (now (saved .entry)) r ≡ returnedTo (markedAt (now (lists .entry)) (now (saved .entry)) state) m ⌝ }
-    ensures { λ r. ⌜ ((whole : Bool) (n : ℕ) → KeepStanding whole n (now (lists .entry)) (now (saved .entry)) state (now (lists .exit)) (now (saved .entry)) r) ⌝ }
+    ensures { λ r. ⌜ ((whole : Bool) (n : ℕ) → KeepLawful whole n (now (lists .entry)) (now (saved .entry)) state (now (lists .exit)) (now (saved .entry)) r) ⌝ }
 {
     if 8 <= m {
         return refuse_record(state, 15);
@@ -129,13 +135,13 @@ pub fn act(
     n: usize,
     lists: &mut [[u8; 128]; 128],
     saved: &mut [[[u8; 128]; 128]; 8],
-    state: Marked,
+    state: MarkedPlace,
     choice: Record,
     whole: bool,
-) -> Marked
-    requires { ⌜ AllStand whole n (now lists) (now saved) state ⌝ }
+) -> MarkedPlace
+    requires { ⌜ AllLawful whole n (now lists) (now saved) state ⌝ }
     ensures { λ r. ⌜ actedAt (now (lists .exit)) (now (saved .exit)) r ≡ acts whole n (markedAt (now (lists .entry)) (now (saved .entry)) state) choice ⌝ }
-    ensures { λ r. ⌜ (r .place .refusal ≡ 0 → AllStand whole n (now (lists .exit)) (now (saved .exit)) r) ⌝ }
+    ensures { λ r. ⌜ (r .place .refusal ≡ 0 → AllLawful whole n (now (lists .exit)) (now (saved .exit)) r) ⌝ }
 {
     let kind = choice.kind;
     let x = wide(choice.number);

@@ -1,3 +1,3 @@
 -- What the code's contracts cite beside the definitions of the crates below.
 pub mod Moved
-pub mod Standing
+pub mod Lawful

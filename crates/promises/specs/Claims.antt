@@ -134,7 +134,7 @@ abbrev pub standingBytes : List ℕ → List ℕ
 standingBytes cs = stepBytes (standing (recordsOf cs))
 
 -- Where nothing is refused they alone get the same answer, write the same bytes and have the same counts.
-pub record Replayed (s cs : List ℕ) : Type 0 where
+pub record CallReplayed (s cs : List ℕ) : Type 0 where
   pub settle-replayed : (out : List ℕ) → settledNumber (settleAnswer s cs out) ≡ 0
       → (settleAnswer s cs out ≡ settleAnswer s (standingBytes cs) out) × (settleBytes s cs out ≡ settleBytes s (standingBytes cs) out)
   pub shorten-replayed : (out : List ℕ) → shortenedNumber (shortenAnswer s cs out) ≡ 0
@@ -145,7 +145,7 @@ pub record Replayed (s cs : List ℕ) : Type 0 where
       → (r : RecordRefused whole (joints s) (squareOf s) (recordsOf cs) k) → countsOf whole s cs ≡ counts k (r .there .proposals) (r .there .cuts)
 
 abbrev pub CallsReplayed : Type 0
-CallsReplayed = (s cs : List ℕ) → Replayed s cs
+CallsReplayed = (s cs : List ℕ) → CallReplayed s cs
 
 -- CHECK, for every sheet s and offered pairing m.
 pub record CheckKeeps (s m : List ℕ) : Type 0 where

@@ -9,17 +9,17 @@ use lib.ListN.{length}
 use borrow.Author.Tests.{eq-eqb, eqb-true, not-false}
 use Rattle.base.proofs.Cases.{case, both-ways}
 use Rattle.base.proofs.Tests.{never}
-use Rattle.roommates.specs.declared.Stage.the-variants.{Cutting}
+use Rattle.roommates.specs.declared.Stage.the-variants.{Proposing, Cutting}
 use Rattle.roommates.specs.Lists.{Square}
 use Rattle.roommates.specs.PhaseOne.{Work}
 use Rattle.roommates.specs.Moves.{Outcome, outcome}
-use Rattle.roommates.proofs.Sound.{promise-sound}
+use Rattle.roommates.proofs.Sound.{Sound, promise-sound}
 use Rattle.roommates.proofs.Stages.{one-goes-on, two-goes-on}
-use Rattle.roommates.proofs.ChoicesRefused.{carried-refusal, carried-stopped, shorten-unfit, uncutting}
+use Rattle.roommates.proofs.ChoicesRefused.{carried-refusal, carried-stopped, unfit-stage, shorten-unfit, uncutting}
 use Rattle.records.specs.declared.Record.{Record}
 use Rattle.records.specs.Records.{recordOf, recordsOf, Marked, follows, started, isOdd, workedBy}
 use Rattle.records.specs.Standing.{isSetBy, standing}
-use Rattle.records.specs.Claims.{UnfitRecord, unfit-step, no-kind, no-mark, not-set, RecordRefused, BytesRefused, odd-bytes, by-record, RecordRefusals}
+use Rattle.records.specs.Claims.{UnfitRecord, unfit-step, no-kind, no-mark, not-set, RecordRefused, StoppedBy, BytesRefused, odd-bytes, by-record, RecordRefusals}
 use Rattle.records.proofs.Acting.{isSetIn, unfit-record-number, unfit-acts}
 use Rattle.records.proofs.Following.{Followed, followed-all, followed-follows, follows-stop, Came, all-followed, stopped, unfit-some, came, set-by}
 use Rattle.records.proofs.Replay.{followed-replayed}
@@ -136,6 +136,33 @@ module _ (whole : Bool) (n : ℕ) (t : Square) where
         by-number zero e = inl refl
         by-number (suc k) e = inr (numbered (refused-by (suc k) (λ z. omega arith) e))
 
+-- where a working stops short of its end: in that phase, by that number
+abbrev Stops : Work → ℕ → Type 0
+Stops w k = (w .stage ≡ Proposing → StoppedBy 11 k) × (w .stage ≡ Cutting → StoppedBy 12 k)
+
+module _ (whole : Bool) (n : ℕ) (t : Square) (bytes : List ℕ) where
+  stopped-one : {w : Work} {set : ℕ → Bool} {r : Record} {k : ℕ} → UnfitRecord n w set r k → Stops w k
+  stopped-one (unfit-step i u) = let at = unfit-stage whole n u in (λ g. inl (at .0 g), λ g. inl (at .1 g))
+  stopped-one (no-kind l) = (λ g. inr (inl refl), λ g. inr (inl refl))
+  stopped-one (no-mark i l) = (λ g. inr (inr refl), λ g. inr (inr refl))
+  stopped-one (not-set i h) = (λ g. inr (inr refl), λ g. inr (inr refl))
+
+  stops-at : Sound n t → Stops (workedBy whole n t bytes .work-is) (workedBy whole n t bytes .refusal)
+  stops-at s = by-number (workedBy whole n t bytes .refusal) refl
+    where
+      by-bytes : {k : ℕ} → BytesRefused whole n t bytes k → Stops (workedBy whole n t bytes .work-is) k
+      by-bytes (odd-bytes e) = (λ g. inr (inl refl), λ g. inr (inl refl))
+      by-bytes (by-record e r) =
+          let there = ap (λ (o : Outcome). o .work-is .stage) (left-there whole n t bytes e r) in
+          let at = stopped-one (r .unfit) in
+          (λ g. at .0 (sym there ∙ g), λ g. at .1 (sym there ∙ g))
+
+      by-number : (k : ℕ) → workedBy whole n t bytes .refusal ≡ k → Stops (workedBy whole n t bytes .work-is) k
+      by-number zero z =
+          let over = worked-by-ends whole n t s bytes z in
+          (λ g. absurd (one-goes-on g over), λ g. absurd (two-goes-on g over))
+      by-number (suc k) e = by-bytes (refused-by whole n t bytes (suc k) (λ z. omega arith) e)
+
 -- shorten's working never stands in phase two, so 12 is no refusal of its records
 pub not-twelve : (n : ℕ) (t : Square) (bytes : List ℕ) → workedBy false n t bytes .refusal ≢ 12
 not-twelve n t bytes h = none (refused-by false n t bytes 12 (λ z. omega arith) h) refl
@@ -155,8 +182,7 @@ record-refusals whole n t bytes = record {
   refused-by = λ k d. (refused-by whole n t bytes k d, refused-so whole n t bytes k);
   left-there = left-there whole n t bytes;
   left-begun = by-none whole n t bytes;
-  stops-short = λ promise at z.
-      let over = worked-by-ends whole n t (promise-sound promise) bytes z in
-      case at (λ g. one-goes-on g over) (λ g. two-goes-on g over);
+  stops-at = λ promise.
+      stops-at whole n t bytes (promise-sound promise);
   beginning = beginning whole n t bytes;
 }

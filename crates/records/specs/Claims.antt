@@ -79,6 +79,10 @@ pub data BytesRefused (whole : Bool) (n : ℕ) (t : Square) (bytes : List ℕ) :
   odd-bytes : isOdd (length bytes) ≡ true → BytesRefused whole n t bytes 14
   by-record : {k : ℕ} → isOdd (length bytes) ≡ false → RecordRefused whole n t (recordsOf bytes) k → BytesRefused whole n t bytes k
 
+-- refused by the number of a step, by 14 or by 15
+abbrev pub StoppedBy : ℕ → ℕ → Type 0
+StoppedBy step k = (k ≡ step) ⊎ ((k ≡ 14) ⊎ (k ≡ 15))
+
 -- For every list of bytes, settle's and shorten's; k is not 0.
 pub record RecordsRefused (whole : Bool) (n : ℕ) (t : Square) (bytes : List ℕ) : Type 0 where
   pub refused-by : (k : ℕ) → k ≢ 0 → (workedBy whole n t bytes .refusal ≡ k) ↔ BytesRefused whole n t bytes k
@@ -86,9 +90,9 @@ pub record RecordsRefused (whole : Bool) (n : ℕ) (t : Square) (bytes : List �
   pub left-there : {k : ℕ} → isOdd (length bytes) ≡ false → (r : RecordRefused whole n t (recordsOf bytes) k) → workedBy whole n t bytes ≡ outcome k (r .there)
   -- before the first record nothing has been done
   pub left-begun : isOdd (length bytes) ≡ true → workedBy whole n t bytes ≡ outcome 14 (begun whole n t)
-  -- it stops short of an end only where something was refused
-  pub stops-short : SquarePromise n t → (stageOf (workedBy whole n t bytes) ≡ Proposing) ⊎ (stageOf (workedBy whole n t bytes) ≡ Cutting)
-      → workedBy whole n t bytes .refusal ≢ 0
+  -- it stops short of an end only where a step of that phase was refused, or a record for its form
+  pub stops-at : SquarePromise n t → (stageOf (workedBy whole n t bytes) ≡ Proposing → StoppedBy 11 (workedBy whole n t bytes .refusal))
+      × (stageOf (workedBy whole n t bytes) ≡ Cutting → StoppedBy 12 (workedBy whole n t bytes .refusal))
   -- left off after any record: a beginning of records within the rules is within them
   pub beginning : (later : List ℕ) → isOdd (length bytes) ≡ false → workedBy whole n t (bytes ++ later) .refusal ≡ 0 → workedBy whole n t bytes .refusal ≡ 0
 

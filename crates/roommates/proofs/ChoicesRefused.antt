@@ -128,7 +128,7 @@ module _ (whole : Bool) (n : ℕ) where
       → moves whole n w (cs ++ (x ∷ ds)) .refusal ≡ k
   refused-at {v = v} {x = x} m u d ds = ap (λ (o : Outcome). o .refusal) (made-moves m (x ∷ ds) ∙ moves-stop v x ds d (unfit-move u))
 
-  unfit-stage : {w : Work} {x k : ℕ} → Unfit n w x k → (w .stage ≡ Proposing → k ≡ 11) × (w .stage ≡ Cutting → k ≡ 12)
+  pub unfit-stage : {w : Work} {x k : ℕ} → Unfit n w x k → (w .stage ≡ Proposing → k ≡ 11) × (w .stage ≡ Cutting → k ≡ 12)
   unfit-stage (not-waiting h e) = (λ g. refl, λ g. absurd (phases-differ h g))
   unfit-stage (not-longer h e) = (λ g. absurd (phases-differ g h), λ g. refl)
   unfit-stage (ended-before h) = (λ g. absurd (one-goes-on g h), λ g. absurd (two-goes-on g h))

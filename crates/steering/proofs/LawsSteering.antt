@@ -28,9 +28,9 @@ use Rattle.records.specs.Records.{recordOf, recordsOf, acts, follows, started, 
 use Rattle.records.specs.Records as R
 use Rattle.stages.specs.declared.Place.{Place}
 use Rattle.stages.specs.Places.{workAt, outcomeAt, Stands}
-use Rattle.moves.specs.Standing.{Standing}
-use Rattle.marks.specs.declared.Marked.{Marked}
-use Rattle.marks.specs.Marks.{markedAt, actedAt, AllStand}
+use Rattle.moves.specs.Lawful.{Lawful}
+use Rattle.marks.specs.declared.MarkedPlace.{MarkedPlace}
+use Rattle.marks.specs.Marks.{markedAt, actedAt, AllLawful}
 use Rattle.steering.specs.Ends.{isOver, isProposing}
 
 over-said : (s : Stage) → isOver s ≡ true → Over s
@@ -68,7 +68,7 @@ records-from cs i l =
     rw (drop-cons cs (2 * i) 0 (omega arith), drop-cons cs (suc (2 * i)) 0 (omega arith), next, add-one (2 * i)) refl
 
 -- the i-th record acts on s, and all that follow on what it leaves, which is h
-module _ (whole : Bool) (n : ℕ) (cs : List ℕ) (i : ℕ) (l : 2 * i + 1 < length cs) (s : R.Marked) (u : Square) (saved : List Square) (h : Marked)
+module _ (whole : Bool) (n : ℕ) (cs : List ℕ) (i : ℕ) (l : 2 * i + 1 < length cs) (s : R.Marked) (u : Square) (saved : List Square) (h : MarkedPlace)
     (e : actedAt u saved h ≡ acts whole n s (recordAt cs i)) where
   pub followed-on : h .place .refusal ≡ 0
       → follows whole n (markedAt u saved h) (recordsOf (drop (2 * (i + 1)) cs)) ≡ follows whole n s (recordsOf (drop (2 * i) cs))
@@ -84,23 +84,23 @@ pub from-first : (whole : Bool) (n : ℕ) {s s′ : R.Marked} (rs : List Record)
 from-first whole n rs e h = h ∙ ap (λ s. follows whole n s rs) e
 
 -- where no two bytes are left
-pub followed-all : {whole : Bool} {n : ℕ} {t : Square} {saved : List Square} {h : Marked} → AllStand whole n t saved h → (cs : List ℕ) (i : ℕ) → length cs ≤ 2 * i + 1
+pub followed-all : {whole : Bool} {n : ℕ} {t : Square} {saved : List Square} {h : MarkedPlace} → AllLawful whole n t saved h → (cs : List ℕ) (i : ℕ) → length cs ≤ 2 * i + 1
     → outcomeAt t (h .place) ≡ follows whole n (markedAt t saved h) (recordsOf (drop (2 * i) cs))
 unfolding follows recordsOf
 followed-all {whole} {n} {t} {saved} {h} all cs i l =
     let few : length (drop (2 * i) cs) ≤ 1 = omega (arith, length-drop (2 * i) cs) in
-    rw (no-records (drop (2 * i) cs) few, all .stands .unrefused) refl
+    rw (no-records (drop (2 * i) cs) few, all .lawful .unrefused) refl
   where
     no-records : (l : List ℕ) → length l ≤ 1 → recordsOf l ≡ []
     no-records [] h = refl
     no-records (k ∷ []) h = refl
     no-records (k ∷ (x ∷ l)) h = absurd (omega arith)
 
-module _ {whole : Bool} {n : ℕ} {t : Square} {g : Place} (s : Standing whole n t g) where
+module _ {whole : Bool} {n : ℕ} {t : Square} {g : Place} (s : Lawful whole n t g) where
   -- PHASE ONE AT ONCE
   module _ (one : isProposing (g .stage) ≡ true) {u : Square} (h : Place) (e : Stands n u h (inOne whole n (phaseOne n (workAt t g)))) where
-    pub stands-past : Standing whole n u h
-    stands-past = record {
+    pub lawful-past : Lawful whole n u h
+    lawful-past = record {
       start = s .start;
       promise = s .promise;
       arrived =
@@ -138,7 +138,7 @@ module _ {whole : Bool} {n : ℕ} {t : Square} {g : Place} (s : Standing whole n
         ap (concluded (f - (i + 1)) whole n) m ∙ sym (ap (λ j. concluded j whole n (workAt t g)) k ∙ rule-more whole n (f - (i + 1)) (workAt t g))
 
 -- A WORKING begins, and ends by its choices or by the rule.
-pub begins : {whole : Bool} {n : ℕ} {t : Square} {g : Place} → SquarePromise n t → Stands n t g (begun whole n t) → Standing whole n t g
+pub begins : {whole : Bool} {n : ℕ} {t : Square} {g : Place} → SquarePromise n t → Stands n t g (begun whole n t) → Lawful whole n t g
 begins {whole} {n} {t} {g} promise h = record {
   start = t;
   promise = promise;

@@ -13,7 +13,7 @@ ghost use Rattle.sheet.specs.Square.{SquarePromise};
 ghost use Rattle.roommates.specs.Moves.{outcome, concluded, turns};
 ghost use Rattle.records.specs.Records.{recordsOf, marked, unmarked, follows, workedBy};
 ghost use Rattle.stages.specs.Places.{workAt, outcomeAt};
-ghost use Rattle.moves.specs.Standing.{Standing};
+ghost use Rattle.moves.specs.Lawful.{Lawful};
 ghost use Rattle.steering.specs.Ends.{isOver, isProposing};
 
 fn is_over(stage: Stage) -> bool
@@ -36,9 +36,9 @@ fn follow(
     choices: &[u8],
     whole: bool,
 ) -> Place
-    requires { ⌜ Standing whole n (now lists) place ⌝ }
+    requires { ⌜ Lawful whole n (now lists) place ⌝ }
     ensures { λ r. ⌜ outcomeAt (now (lists .exit)) r ≡ follows whole n (marked (workAt (now (lists .entry)) place) unmarked) (recordsOf (now (choices .entry))) ⌝ }
-    ensures { λ r. ⌜ (r .refusal ≡ 0 → Standing whole n (now (lists .exit)) r) ⌝ }
+    ensures { λ r. ⌜ (r .refusal ≡ 0 → Lawful whole n (now (lists .exit)) r) ⌝ }
 {
     let mut saved = [[[0u8; 128]; 128]; 8];
     let mut state = begin_marks(place);
@@ -59,7 +59,7 @@ fn follow(
 
 // The rule's moves, one by one, to the end.
 fn go_on(n: usize, lists: &mut [[u8; 128]; 128], place: Place, whole: bool) -> Place
-    requires { ⌜ Standing whole n (now lists) place ⌝ }
+    requires { ⌜ Lawful whole n (now lists) place ⌝ }
     ensures { λ r. ⌜ outcomeAt (now (lists .exit)) r ≡ outcome 0 (concluded (turns n) whole n (workAt (now (lists .entry)) place)) ⌝ }
 {
     let most = n * n + n * n + 1;
@@ -90,7 +90,7 @@ fn is_proposing(stage: Stage) -> bool
 
 // The rule's moves, to the end; those of phase one at once, so that they copy no place.
 fn conclude(n: usize, lists: &mut [[u8; 128]; 128], place: Place, whole: bool) -> Place
-    requires { ⌜ Standing whole n (now lists) place ⌝ }
+    requires { ⌜ Lawful whole n (now lists) place ⌝ }
     ensures { λ r. ⌜ outcomeAt (now (lists .exit)) r ≡ outcome 0 (concluded (turns n) whole n (workAt (now (lists .entry)) place)) ⌝ }
 {
     let stage = place.stage;

@@ -9,13 +9,13 @@ wide-requires : tie.Need-wide-requires
 wide-requires c κs = search needs
 
 step-requires : tie.Need-step-requires
-step-requires c κs = c .before .before .before .pre .stands
+step-requires c κs = c .before .before .before .pre .lawful
 
 set-mark-requires : tie.Need-set-mark-requires
-set-mark-requires c κs = let all = c .before .before .before .before .pre in (all .stands .unrefused, (all .eight-saved, all .eight-marks))
+set-mark-requires c κs = let all = c .before .before .before .before .pre in (all .lawful .unrefused, (all .eight-saved, all .eight-marks))
 
 return-to-requires : tie.Need-return-to-requires
-return-to-requires c κs = let all = c .before .before .before .before .pre in (λ m l h. all .marks-stand m l h .unrefused, all .eight-marks)
+return-to-requires c κs = let all = c .before .before .before .before .pre in (λ m l h. all .marks-lawful m l h .unrefused, all .eight-marks)
 
 refuse-record-requires : tie.Need-refuse-record-requires
 refuse-record-requires c κs = search needs

@@ -1,10 +1,10 @@
 -- No mark is set.
-use Rattle.marks.proofs.LawsMarks.{begins-unmarked, begins-standing}
+use Rattle.marks.proofs.LawsMarks.{begins-unmarked, begins-lawful}
 use Rattle.marks.proofs.begin_marks.Statement.{statement}
 use Rattle.marks.proofs.begin_marks.Tie as tie
 
 returns : tie.Need-returns
-returns c = (begins-unmarked (c .args .place), begins-standing (c .args .place))
+returns c = (begins-unmarked (c .args .place), begins-lawful (c .args .place))
 
 pub begin-marks-spec : {M : Type 1} → statement M
 begin-marks-spec = tie.close (tie.spec returns)

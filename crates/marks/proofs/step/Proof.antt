@@ -1,5 +1,5 @@
 -- A step.
-use Rattle.moves.proofs.LawsStanding.{few-joints, roomy}
+use Rattle.moves.proofs.LawsLawful.{few-joints, roomy}
 use Rattle.marks.proofs.LawsMarks.{steps-so, step-keeps}
 use Rattle.marks.proofs.step.Statement.{statement}
 use Rattle.marks.proofs.step.Tie as tie

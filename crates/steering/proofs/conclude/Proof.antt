@@ -5,9 +5,9 @@ use borrow.Author.Needs.{needs}
 use Rattle.base.proofs.Tests.{said-yes}
 use Rattle.roommates.specs.PhaseOne.{Work}
 use Rattle.roommates.specs.Moves.{outcome}
-use Rattle.moves.proofs.LawsStanding.{few-joints, roomy}
+use Rattle.moves.proofs.LawsLawful.{few-joints, roomy}
 use Rattle.steering.specs.Ends.{isProposing}
-use Rattle.steering.proofs.LawsSteering.{one-said, stands-past, concluded-past}
+use Rattle.steering.proofs.LawsSteering.{one-said, lawful-past, concluded-past}
 use Rattle.steering.proofs.conclude.Statement.{statement}
 use Rattle.steering.proofs.conclude.Tie as tie
 
@@ -37,7 +37,7 @@ go-on-requires-2 : tie.Need-go-on-requires-2
 go-on-requires-2 c κs =
     let p = c .before in
     let e = p .before .before in
-    stands-past (start e .pre) (in-one e) (p .propose-on .result) (p .propose-on .ensures)
+    lawful-past (start e .pre) (in-one e) (p .propose-on .result) (p .propose-on .ensures)
 
 returns-2 : tie.Need-returns-2
 returns-2 c =

@@ -6,14 +6,14 @@ use native.Mathlib.Omega.{arith}
 use lib.ListN.{length, drop}
 use borrow.Author.Needs.{needs}
 use Rattle.records.specs.Records.{recordsOf, follows}
-use Rattle.marks.specs.Marks.{markedAt, AllStand}
+use Rattle.marks.specs.Marks.{markedAt, AllLawful}
 use Rattle.steering.proofs.LawsSteering.{from-first, followed-on, followed-stops, followed-all}
 use Rattle.steering.proofs.follow.Statement.{statement}
 use Rattle.steering.proofs.follow.Tie as tie
 
 abbrev Inv-loop : tie.InvT-loop
 Inv-loop n lists₀ choices whole saved₀ state₀ count i₀ lists saved state i =
-    AllStand whole n lists saved state
+    AllLawful whole n lists saved state
     × ((i ≤ count)
     × ((2 * count ≤ length choices)
     × ((count < 2 ^ 63)
@@ -86,7 +86,7 @@ returns-2 c =
     let l = c .before .before in
     let i = l .loop .inv in
     let none = followed-all (i .0) (bytes l) (l .loop .i) (omega (arith, c .before .loop-test .left, i .1 .1 .1 .1 .0)) in
-    (from-first _ _ _ (l .before .begin-marks .ensures .0 _ _) (none ∙ i .1 .1 .1 .1 .1), λ z. i .0 .stands)
+    (from-first _ _ _ (l .before .begin-marks .ensures .0 _ _) (none ∙ i .1 .1 .1 .1 .1), λ z. i .0 .lawful)
 
 pub follow-spec : {M : Type 1} → statement M
 follow-spec =

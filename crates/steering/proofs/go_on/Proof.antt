@@ -8,8 +8,8 @@ use native.Mathlib.Numerals.{add-one}
 use Rattle.roommates.specs.PhaseOne.{Work}
 use Rattle.roommates.specs.Moves.{outcome, concluded, turns}
 use Rattle.stages.specs.Places.{workAt}
-use Rattle.moves.specs.Standing.{Standing}
-use Rattle.moves.proofs.LawsStanding.{few-joints, roomy, stands-on}
+use Rattle.moves.specs.Lawful.{Lawful}
+use Rattle.moves.proofs.LawsLawful.{few-joints, roomy, lawful-on}
 use Rattle.steering.specs.Ends.{isOver}
 use Rattle.steering.proofs.LawsSteering.{rule-ends, rule-unrefused, rule-on, rule-spent}
 use Rattle.steering.proofs.go_on.Statement.{statement}
@@ -17,7 +17,7 @@ use Rattle.steering.proofs.go_on.Tie as tie
 
 abbrev Inv-loop : tie.InvT-loop
 Inv-loop n lists₀ whole most next₀ i₀ lists next i =
-    Standing whole n lists next
+    Lawful whole n lists next
     × ((i ≤ most) × (concluded (most - i) whole n (workAt lists next) ≡ concluded (turns n) whole n (workAt lists₀ next₀)))
 
 abbrev μ-loop : tie.MeasureT-loop
@@ -72,7 +72,7 @@ loop-again c =
     let h = c .make-move .result in
     let e = c .make-move .ensures .0 in
     let live : isOver (t .before .loop .next .stage) ≡ false = sym (asked c .before .is-over .ensures) ∙ asked c .if1 .left in (
-      stands-on (i .0) h _ e (c .make-move .ensures .1) (rule-unrefused (i .0) h e live),
+      lawful-on (i .0) h _ e (c .make-move .ensures .1) (rule-unrefused (i .0) h e live),
       (omega arith, rule-on (i .0) h e _ _ (t .loop-test .taken) ∙ i .1 .1),
     )
 

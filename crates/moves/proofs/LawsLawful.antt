@@ -14,9 +14,9 @@ use Rattle.roommates.proofs.WorkingsEnd.{arrived-few}
 use Rattle.stages.specs.declared.Place.{Place}
 use Rattle.stages.specs.Places.{workAt, outcomeAt, Ruled}
 use Rattle.moves.specs.Moved.{Roomy}
-use Rattle.moves.specs.Standing.{Standing}
+use Rattle.moves.specs.Lawful.{Lawful}
 
-module _ {whole : Bool} {n : ℕ} {t : Square} {g : Place} (s : Standing whole n t g) where
+module _ {whole : Bool} {n : ℕ} {t : Square} {g : Place} (s : Lawful whole n t g) where
   pub few-joints : n ≤ 128
   few-joints = s .promise .few-joints
 
@@ -29,9 +29,9 @@ module _ {whole : Bool} {n : ℕ} {t : Square} {g : Place} (s : Standing whole n
       let most = mul-le-mul few-joints few-joints in
       (omega arith, omega arith)
 
-  pub stands-on : {u : Square} (h : Place) (x : ℕ) → outcomeAt u h ≡ move whole n (workAt t g) x → (Ruled n t g → Ruled n u h) → h .refusal ≡ 0
-      → Standing whole n u h
-  stands-on h x e keeps z = record {
+  pub lawful-on : {u : Square} (h : Place) (x : ℕ) → outcomeAt u h ≡ move whole n (workAt t g) x → (Ruled n t g → Ruled n u h) → h .refusal ≡ 0
+      → Lawful whole n u h
+  lawful-on h x e keeps z = record {
     start = s .start;
     promise = s .promise;
     arrived = subst (Arrived whole n (s .start)) (sym (ap (λ (o : Outcome). o .work-is) e)) (move-arrives (s .arrived) x);

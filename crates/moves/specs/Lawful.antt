@@ -9,7 +9,7 @@ use Rattle.stages.specs.declared.Place.{Place}
 use Rattle.stages.specs.Places.{workAt, Ruled}
 
 -- It came from lists that keep the reader's promise, so that its counts are small; no choice was refused; and the place knows the rule's joint.
-pub record Standing (whole : Bool) (n : ℕ) (t : Square) (g : Place) : Type 0 where
+pub record Lawful (whole : Bool) (n : ℕ) (t : Square) (g : Place) : Type 0 where
   pub start : Square
   pub promise : SquarePromise n start
   pub arrived : Arrived whole n start (workAt t g)
