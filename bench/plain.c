@@ -7,6 +7,7 @@
 
 enum { JOINTS = 128, LABEL = 16, ENTRY = 3, ALONE = 255, MARKS = 8 };
 enum { NONE_ONE = 1, NONE_TWO = 2, PAIRED = 3 };
+enum { AGAIN = 256 }; /* no refusal: the working may be in another phase */
 
 /* A working. A joint's proposals go to a whole band of its list at once, so the band of its last step tells which of
  * them stand: those to the joints that it still lists in that band. */
@@ -19,6 +20,13 @@ struct working {
     bool set_aside[JOINTS];       /* was its list empty when phase one ended? */
     int verdict;                  /* 0 until the working has ended */
     uint32_t proposals, cuts;
+};
+
+struct records {
+    const uint8_t *bytes;
+    size_t size, used;
+    struct working *saved; /* by the marks that are set */
+    bool set[MARKS];
 };
 
 /* ---- the sheet */
@@ -158,7 +166,7 @@ static bool waits(const struct working *w, int p)
     return !empty;
 }
 
-static inline int lowest_waiting(const struct working *w)
+static int lowest_waiting(const struct working *w)
 {
     int p = 0;
     while (p < w->n && !waits(w, p))
@@ -189,7 +197,7 @@ static void propose(struct working *w, int p, int q)
 
 /* p proposes to all of its best band. A proposal at q strikes pairs of q alone, so the rest of the band is still there
  * when its turn comes. */
-static inline void step(struct working *w, int p)
+static void step(struct working *w, int p)
 {
     int best = w->band[p][first_on(w, p)];
     w->asked[p] = best;
@@ -198,10 +206,44 @@ static inline void step(struct working *w, int p)
             propose(w, p, q);
 }
 
-static void run_one(struct working *w)
+/* The next record. Returns 0 for a step and gives its joint, AGAIN for a mark that it set or a return that it made, or a
+ * refusal. */
+static int next_record(struct working *w, struct records *c, int *joint)
 {
-    for (int p = lowest_waiting(w); p < w->n; p = lowest_waiting(w))
+    int kind = c->bytes[c->used], x = c->bytes[c->used + 1];
+    if (kind > 2)
+        return 14;
+    if (kind != 0 && (x >= MARKS || (kind == 2 && !c->set[x])))
+        return 15;
+    c->used += 2;
+    if (kind == 0) {
+        *joint = x;
+        return 0;
+    }
+    if (kind == 1) {
+        c->saved[x] = *w;
+        c->set[x] = true;
+    } else
+        *w = c->saved[x];
+    return AGAIN;
+}
+
+/* Steps until nobody waits. Returns 0 then, else what the next record gave, or 11. */
+static int phase_one(struct working *w, struct records *c)
+{
+    for (;;) {
+        int p = lowest_waiting(w);
+        if (p == w->n)
+            return 0;
+        if (c->used < c->size) {
+            int met = next_record(w, c, &p);
+            if (met != 0)
+                return met;
+            if (p >= w->n || !waits(w, p))
+                return 11;
+        }
         step(w, p);
+    }
 }
 
 static bool received_and_emptied(const struct working *w)
@@ -225,24 +267,48 @@ static int lowest_longer(const struct working *w)
 /* Strikes v's worst band from v's list and runs phase one afresh. Does it leave no list empty but those set aside? */
 static bool trial(struct working *t, const struct working *w, int v)
 {
+    struct records none = {.size = 0};
     *t = *w;
     memset(t->asked, 0, sizeof t->asked);
     strike_band(t, v, worst_band(t, v));
-    run_one(t);
+    phase_one(t, &none);
     for (int a = 0; a < t->n; a++)
         if (!w->set_aside[a] && list_length(t, a) == 0)
             return false;
     return true;
 }
 
-static void cut(struct working *w, int x)
+static bool cut(struct working *w, int x)
 {
     struct working t;
     w->cuts++;
-    if (trial(&t, w, first_on(w, x)) || trial(&t, w, x))
-        memcpy(w->band, t.band, sizeof w->band);
-    else
-        w->verdict = NONE_TWO;
+    if (!trial(&t, w, first_on(w, x)) && !trial(&t, w, x))
+        return false;
+    memcpy(w->band, t.band, sizeof w->band);
+    return true;
+}
+
+/* Cuts until no list is longer than one, or a cut fails. Returns 0 then, else what the next record gave, or 12. */
+static int phase_two(struct working *w, struct records *c)
+{
+    for (;;) {
+        int x = lowest_longer(w);
+        if (x == w->n) {
+            w->verdict = PAIRED;
+            return 0;
+        }
+        if (c->used < c->size) {
+            int met = next_record(w, c, &x);
+            if (met != 0)
+                return met;
+            if (x >= w->n || list_length(w, x) < 2)
+                return 12;
+        }
+        if (!cut(w, x)) {
+            w->verdict = NONE_TWO;
+            return 0;
+        }
+    }
 }
 
 /* ---- whole workings */
@@ -256,74 +322,33 @@ static void end_one(struct working *w)
         w->set_aside[a] = list_length(w, a) == 0;
 }
 
-static void end_what_has_ended(struct working *w)
+/* One phase, or a record after the end. Returns 0, AGAIN or a refusal. */
+static int go_on(struct working *w, struct records *c)
 {
-    if (!w->in_two && lowest_waiting(w) == w->n)
+    int x, met;
+    if (w->verdict != 0) {
+        met = next_record(w, c, &x);
+        return met == 0 ? 13 : met;
+    }
+    if (w->in_two)
+        return phase_two(w, c);
+    met = phase_one(w, c);
+    if (met == 0)
         end_one(w);
-    if (w->verdict == 0 && w->in_two && lowest_longer(w) == w->n)
-        w->verdict = PAIRED;
+    return met;
 }
 
-/* Returns 0 or a refusal, as do the next two. */
-static int choose(struct working *w, int x)
-{
-    if (w->verdict != 0)
-        return 13;
-    if (w->in_two) {
-        if (x >= w->n || list_length(w, x) < 2)
-            return 12;
-        cut(w, x);
-    } else {
-        if (x >= w->n || !waits(w, x))
-            return 11;
-        step(w, x);
-    }
-    end_what_has_ended(w);
-    return 0;
-}
-
-static int follow(struct working *w, const uint8_t *records, size_t size)
-{
-    struct working saved[MARKS];
-    bool set[MARKS] = {false};
-    if (size % 2 != 0)
-        return 14;
-    end_what_has_ended(w);
-    for (size_t i = 0; i < size; i += 2) {
-        int kind = records[i], x = records[i + 1], refusal = 0;
-        if (kind > 2)
-            return 14;
-        if (kind != 0 && (x >= MARKS || (kind == 2 && !set[x])))
-            return 15;
-        if (kind == 0)
-            refusal = choose(w, x);
-        if (refusal != 0)
-            return refusal;
-        if (kind == 1) {
-            saved[x] = *w;
-            set[x] = true;
-        }
-        if (kind == 2)
-            *w = saved[x];
-    }
-    return 0;
-}
-
+/* Returns 0 or a refusal. */
 static int whole_working(struct working *w, const uint8_t *choices, size_t choices_size)
 {
-    int refusal = choices_size == 0 ? 0 : follow(w, choices, choices_size);
-    if (refusal != 0)
-        return refusal;
-    if (!w->in_two) {
-        run_one(w);
-        end_one(w);
-    }
-    while (w->verdict == 0) {
-        int x = lowest_longer(w);
-        if (x == w->n)
-            w->verdict = PAIRED;
-        else
-            cut(w, x);
+    struct working saved[MARKS];
+    struct records c = {.bytes = choices, .size = choices_size, .saved = saved};
+    if (choices_size % 2 != 0)
+        return 14;
+    while (w->verdict == 0 || c.used < c.size) {
+        int met = go_on(w, &c);
+        if (met != 0 && met != AGAIN)
+            return met;
     }
     return 0;
 }

@@ -30,7 +30,7 @@ use Rattle.stages.specs.declared.Place.{Place}
 use Rattle.stages.specs.Places.{workAt, outcomeAt, Stands}
 use Rattle.moves.specs.Lawful.{Lawful}
 use Rattle.marks.specs.declared.MarkedPlace.{MarkedPlace}
-use Rattle.marks.specs.Marks.{markedAt, actedAt, AllLawful}
+use Rattle.marks.specs.Marks.{marksAt, markedAt, actedAt, AllLawful}
 use Rattle.steering.specs.Ends.{isOver, isProposing}
 
 over-said : (s : Stage) → isOver s ≡ true → Over s
@@ -84,17 +84,25 @@ pub from-first : (whole : Bool) (n : ℕ) {s s′ : R.Marked} (rs : List Record)
 from-first whole n rs e h = h ∙ ap (λ s. follows whole n s rs) e
 
 -- where no two bytes are left
-pub followed-all : {whole : Bool} {n : ℕ} {t : Square} {saved : List Square} {h : MarkedPlace} → AllLawful whole n t saved h → (cs : List ℕ) (i : ℕ) → length cs ≤ 2 * i + 1
-    → outcomeAt t (h .place) ≡ follows whole n (markedAt t saved h) (recordsOf (drop (2 * i) cs))
-unfolding follows recordsOf
+no-records : (l : List ℕ) → length l ≤ 1 → recordsOf l ≡ []
+unfolding recordsOf
+no-records [] h = refl
+no-records (k ∷ []) h = refl
+no-records (k ∷ (x ∷ l)) h = absurd (omega arith)
+
+followed-none : (whole : Bool) (n : ℕ) (t : Square) (g : Place) (marks : ℕ → R.Mark) → g .refusal ≡ 0 → (l : List ℕ) → length l ≤ 1
+    → outcomeAt t g ≡ follows whole n (R.marked (workAt t g) marks) (recordsOf l)
+unfolding follows
+followed-none whole n t g marks z l few = rw (no-records l few, z) refl
+
+pub none-to-follow : {whole : Bool} {n : ℕ} {t : Square} {g : Place} → Lawful whole n t g → (cs : List ℕ) → length cs < 2
+    → outcomeAt t g ≡ follows whole n (R.marked (workAt t g) R.unmarked) (recordsOf cs)
+none-to-follow {whole} {n} {t} {g} s cs few = followed-none whole n t g R.unmarked (s .unrefused) cs (omega arith)
+
+pub followed-all : {whole : Bool} {n : ℕ} {t : Square} {saved : List Square} {h : MarkedPlace} → AllLawful whole n t saved h → (cs : List ℕ) (i : ℕ)
+    → length cs ≤ 2 * i + 1 → outcomeAt t (h .place) ≡ follows whole n (markedAt t saved h) (recordsOf (drop (2 * i) cs))
 followed-all {whole} {n} {t} {saved} {h} all cs i l =
-    let few : length (drop (2 * i) cs) ≤ 1 = omega (arith, length-drop (2 * i) cs) in
-    rw (no-records (drop (2 * i) cs) few, all .lawful .unrefused) refl
-  where
-    no-records : (l : List ℕ) → length l ≤ 1 → recordsOf l ≡ []
-    no-records [] h = refl
-    no-records (k ∷ []) h = refl
-    no-records (k ∷ (x ∷ l)) h = absurd (omega arith)
+    followed-none whole n t (h .place) (marksAt saved (h .marks)) (all .lawful .unrefused) (drop (2 * i) cs) (omega (arith, length-drop (2 * i) cs))
 
 module _ {whole : Bool} {n : ℕ} {t : Square} {g : Place} (s : Lawful whole n t g) where
   -- PHASE ONE AT ONCE

@@ -28,7 +28,7 @@ fn is_over(stage: Stage) -> bool
     }
 }
 
-// The records, up to the first that is refused. What the marks save stands here.
+// The records, up to the first that is refused. What the marks save stands here; where there is no record nothing is cleared for it.
 fn follow(
     n: usize,
     lists: &mut [[u8; 128]; 128],
@@ -40,6 +40,9 @@ fn follow(
     ensures { λ r. ⌜ outcomeAt (now (lists .exit)) r ≡ follows whole n (marked (workAt (now (lists .entry)) place) unmarked) (recordsOf (now (choices .entry))) ⌝ }
     ensures { λ r. ⌜ (r .refusal ≡ 0 → Lawful whole n (now (lists .exit)) r) ⌝ }
 {
+    if choices.len() < 2 {
+        return place;
+    }
     let mut saved = [[[0u8; 128]; 128]; 8];
     let mut state = begin_marks(place);
     let count = choices.len() / 2;
