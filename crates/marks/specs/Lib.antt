@@ -1,2 +1,2 @@
--- What the code's contracts cite beside the definitions of the crates below.
-pub mod Marks
+-- What the code's contracts cite.
+pub mod Saved

@@ -30,7 +30,7 @@ use Rattle.stages.specs.declared.Place.{Place}
 use Rattle.stages.specs.Places.{workAt, outcomeAt, Stands}
 use Rattle.moves.specs.Lawful.{Lawful}
 use Rattle.marks.specs.declared.MarkedPlace.{MarkedPlace}
-use Rattle.marks.specs.Marks.{marksAt, markedAt, actedAt, AllLawful}
+use Rattle.acting.specs.Marks.{marksAt, markedAt, actedAt, AllLawful}
 use Rattle.steering.specs.Ends.{isOver, isProposing}
 
 over-said : (s : Stage) → isOver s ≡ true → Over s

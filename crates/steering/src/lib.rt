@@ -1,6 +1,6 @@
 // Whole workings: the records of the choices, then the rule's moves to the end. For the crates above, which prove what they require.
-use marks::act;
-use marks::begin_marks;
+use acting::act;
+use acting::begin_marks;
 use moves::make_move;
 use records::Record;
 use roommates::Stage;

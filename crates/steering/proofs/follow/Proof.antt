@@ -6,7 +6,7 @@ use native.Mathlib.Omega.{arith}
 use lib.ListN.{length, drop}
 use borrow.Author.Needs.{needs}
 use Rattle.records.specs.Records.{recordsOf, follows}
-use Rattle.marks.specs.Marks.{markedAt, AllLawful}
+use Rattle.acting.specs.Marks.{markedAt, AllLawful}
 use Rattle.steering.proofs.LawsSteering.{none-to-follow, from-first, followed-on, followed-stops, followed-all}
 use Rattle.steering.proofs.follow.Statement.{statement}
 use Rattle.steering.proofs.follow.Tie as tie

@@ -1,10 +1,10 @@
 -- A mark is set, or is none.
 use Prim.Native.Nat.{_<_}
 use native.Mathlib.Omega.{arith}
-use Rattle.marks.proofs.LawsMarks.{refused-keeps, no-mark-set, marks-so, mark-keeps}
+use Rattle.acting.proofs.LawsActing.{refused-keeps, no-mark-set, marks-so, mark-keeps}
 use borrow.Author.Needs.{needs}
-use Rattle.marks.proofs.set_mark.Statement.{statement}
-use Rattle.marks.proofs.set_mark.Tie as tie
+use Rattle.acting.proofs.set_mark.Statement.{statement}
+use Rattle.acting.proofs.set_mark.Tie as tie
 
 refuse-record-requires : tie.Need-refuse-record-requires
 refuse-record-requires c κs = search needs

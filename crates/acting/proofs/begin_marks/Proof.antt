@@ -1,7 +1,7 @@
 -- No mark is set.
-use Rattle.marks.proofs.LawsMarks.{begins-unmarked, begins-lawful}
-use Rattle.marks.proofs.begin_marks.Statement.{statement}
-use Rattle.marks.proofs.begin_marks.Tie as tie
+use Rattle.acting.proofs.LawsActing.{begins-unmarked, begins-lawful}
+use Rattle.acting.proofs.begin_marks.Statement.{statement}
+use Rattle.acting.proofs.begin_marks.Tie as tie
 
 returns : tie.Need-returns
 returns c = (begins-unmarked (c .args .place), begins-lawful (c .args .place))

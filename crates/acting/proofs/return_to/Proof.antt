@@ -2,10 +2,10 @@
 use Prim.Native.Nat.{_<_}
 use native.Mathlib.Omega.{arith}
 use borrow.Author.Tests.{not-true, not-false}
-use Rattle.marks.proofs.LawsMarks.{there, refused-keeps, nowhere-to, not-set-to, returns-so, return-keeps}
+use Rattle.acting.proofs.LawsActing.{there, refused-keeps, nowhere-to, not-set-to, returns-so, return-keeps}
 use borrow.Author.Needs.{needs}
-use Rattle.marks.proofs.return_to.Statement.{statement}
-use Rattle.marks.proofs.return_to.Tie as tie
+use Rattle.acting.proofs.return_to.Statement.{statement}
+use Rattle.acting.proofs.return_to.Tie as tie
 
 refuse-record-requires : tie.Need-refuse-record-requires
 refuse-record-requires c κs = search needs

@@ -1,8 +1,8 @@
 -- A step.
 use Rattle.moves.proofs.LawsLawful.{few-joints, roomy}
-use Rattle.marks.proofs.LawsMarks.{steps-so, step-keeps}
-use Rattle.marks.proofs.step.Statement.{statement}
-use Rattle.marks.proofs.step.Tie as tie
+use Rattle.acting.proofs.LawsActing.{steps-so, step-keeps}
+use Rattle.acting.proofs.step.Statement.{statement}
+use Rattle.acting.proofs.step.Tie as tie
 
 make-move-requires : tie.Need-make-move-requires
 make-move-requires c κs = let s = c .before .pre in (few-joints s, roomy s)

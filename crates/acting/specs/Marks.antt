@@ -3,22 +3,15 @@ use mathlib.Core.Path.{_≡_}
 use mathlib.Core.Bool.{Bool, true, false, cond}
 use mathlib.Core.List.{List, []}
 use Prim.Native.Nat.{ℕ, _<_}
-use lib.ListN.{length, getD, set}
+use lib.ListN.{length, getD}
 use Rattle.roommates.specs.declared.Stage.the-variants.{Proposing}
 use Rattle.roommates.specs.Lists.{Square}
 use Rattle.records.specs.Records as R
 use Rattle.stages.specs.declared.Place.{Place}
 use Rattle.stages.specs.Places.{workAt}
 use Rattle.moves.specs.Lawful.{Lawful}
 use Rattle.marks.specs.declared.MarkPlace.{MarkPlace}
 use Rattle.marks.specs.declared.MarkedPlace.{MarkedPlace}
-
--- the working saved in mark m; another working
-abbrev pub withSaved : ℕ → MarkedPlace → MarkedPlace
-withSaved m s = record { place = s .place; marks = set (s .marks) m record { set = true; place = s .place } }
-
-abbrev pub withPlace : Place → MarkedPlace → MarkedPlace
-withPlace g s = record { place = g; marks = s .marks }
 
 -- what stands for a mark that is not there
 abbrev pub nowhere : Place

@@ -1,2 +1,2 @@
 -- Laws that the functions' proofs cite: one for each way out of a function.
-pub mod LawsMarks
+pub mod LawsActing

@@ -1,8 +1,8 @@
 -- The record is refused.
-use Rattle.marks.proofs.LawsMarks.{says-refused}
+use Rattle.acting.proofs.LawsActing.{says-refused}
 use borrow.Author.Needs.{needs}
-use Rattle.marks.proofs.refuse_record.Statement.{statement}
-use Rattle.marks.proofs.refuse_record.Tie as tie
+use Rattle.acting.proofs.refuse_record.Statement.{statement}
+use Rattle.acting.proofs.refuse_record.Tie as tie
 
 refuse-requires : tie.Need-refuse-requires
 refuse-requires c κs = search needs

@@ -18,9 +18,10 @@ use Rattle.stages.specs.declared.Place.{Place}
 use Rattle.stages.specs.Places.{workAt, outcomeAt, Ruled}
 use Rattle.moves.specs.Lawful.{Lawful}
 use Rattle.moves.proofs.LawsLawful.{lawful-on}
 use Rattle.marks.specs.declared.MarkPlace.{MarkPlace}
 use Rattle.marks.specs.declared.MarkedPlace.{MarkedPlace}
-use Rattle.marks.specs.Marks.{withSaved, withPlace, markIn, markAt, marksAt, markedAt, actedAt, Unrefused, AllLawful, KeepLawful}
+use Rattle.marks.specs.Saved.{withSaved, withPlace}
+use Rattle.acting.specs.Marks.{markIn, markAt, marksAt, markedAt, actedAt, Unrefused, AllLawful, KeepLawful}
 
 -- an element that is there, whatever stands for one that is not
 pub there : {A : Type 0} (l : List A) (i : ℕ) (d e : A) → i < length l → getD l i d ≡ getD l i e

@@ -1,9 +1,9 @@
 -- One record, by its kind.
 use Prim.Native.Nat.{_≤_}
-use Rattle.marks.proofs.LawsMarks.{refused-keeps, kind-step, kind-mark, kind-return, kind-other, above}
+use Rattle.acting.proofs.LawsActing.{refused-keeps, kind-step, kind-mark, kind-return, kind-other, above}
 use borrow.Author.Needs.{needs}
-use Rattle.marks.proofs.act.Statement.{statement}
-use Rattle.marks.proofs.act.Tie as tie
+use Rattle.acting.proofs.act.Statement.{statement}
+use Rattle.acting.proofs.act.Tie as tie
 
 wide-requires : tie.Need-wide-requires
 wide-requires c κs = search needs
