@@ -1,19 +1,20 @@
 -- A record's way out: refused, a step, a mark set, a return. The working is s beside the lists t and those that its marks have saved.
 use mathlib.Core.Path.{_≡_, refl, sym, _∙_, ap, subst, fun-ext}
 use mathlib.Core.Bool.{Bool, true, false, cond}
-use mathlib.Core.List.{List, [], _∷_}
+use mathlib.Core.List.{List, []}
 use mathlib.Core.Logic.{_≢_}
 use Prim.Native.Nat.{ℕ, zero, suc, _≤_, _<_}
 use native.Mathlib.Omega.{arith}
 use lib.ListN.{length, getD, set, replicate, length-set}
 use lib.Seq.{getD-set-same, getD-set-other}
-use borrow.Author.Tests.{lt-ltb, le-ltb, eq-eqb, ne-eqb}
+use borrow.Author.Tests.{eq-eqb, ne-eqb}
 use Rattle.base.proofs.Cases.{case, eq-ne}
 use Rattle.base.proofs.Tests.{never}
 use Rattle.roommates.specs.Lists.{Square}
 use Rattle.roommates.specs.Moves.{Outcome, outcome, move}
 use Rattle.records.specs.declared.Record.{Record}
 use Rattle.records.specs.Records as R
+use Rattle.records.proofs.Acting.{mark-is, no-mark-is, return-is, no-return-is, step-is, kind-step, kind-mark, kind-return}
 use Rattle.stages.specs.declared.Place.{Place}
 use Rattle.stages.specs.Places.{workAt, outcomeAt, Ruled}
 use Rattle.moves.specs.Lawful.{Lawful}
@@ -22,12 +23,6 @@ use Rattle.marks.specs.declared.MarkPlace.{MarkPlace}
 use Rattle.marks.specs.declared.MarkedPlace.{MarkedPlace}
 use Rattle.marks.specs.Saved.{withSaved, withPlace}
 use Rattle.acting.specs.Marks.{markIn, markAt, marksAt, markedAt, actedAt, Unrefused, AllLawful, KeepLawful}
-
--- an element that is there, whatever stands for one that is not
-pub there : {A : Type 0} (l : List A) (i : ℕ) (d e : A) → i < length l → getD l i d ≡ getD l i e
-there [] i d e h = absurd (omega arith)
-there (x ∷ l) zero d e h = refl
-there (x ∷ l) (suc i) d e h = there l i d e (omega arith)
 
 -- NO MARK SET
 module _ (g : Place) where
@@ -60,15 +55,14 @@ module _ (t : Square) (saved : List Square) (s : MarkedPlace) where
   pub says-refused : (g : Place) {k : ℕ} → outcomeAt t g ≡ outcome k (workAt t (s .place)) → actedAt t saved (withPlace g s) ≡ R.acted k before-it
   says-refused g e = ap (λ (o : Outcome). R.acted (o .refusal) (R.marked (o .work-is) (marksAt saved (s .marks)))) e
 
-  -- a state that is refused does not stand
+  -- after which nothing is asked of it
   pub refused-keeps : {k : ℕ} (r : MarkedPlace) (whole : Bool) (n : ℕ) → actedAt t saved r ≡ R.acted (suc k) before-it → KeepLawful whole n t saved s t saved r
   refused-keeps r whole n e all z = let i = ap (λ (a : R.Acted). a .refusal) e in absurd (omega arith)
 
   -- A STEP
   module _ (whole : Bool) (n x : ℕ) (t′ : Square) (g : Place) (e : outcomeAt t′ g ≡ move whole n (workAt t (s .place)) x) where
     pub steps-so : actedAt t′ saved (withPlace g s) ≡ R.stepped whole n before-it x
-    unfolding R.stepped
-    steps-so = ap (λ (o : Outcome). R.acted (o .refusal) (R.marked (o .work-is) (marksAt saved (s .marks)))) e
+    steps-so = sym (step-is whole n before-it x (sym e))
 
     pub step-keeps : (Ruled n t (s .place) → Ruled n t′ g) → KeepLawful whole n t saved s t′ saved (withPlace g s)
     step-keeps keeps all z = record {
@@ -81,8 +75,7 @@ module _ (t : Square) (saved : List Square) (s : MarkedPlace) where
   -- A MARK
   module _ (m : ℕ) where
     pub no-mark-set : (r : MarkedPlace) → 8 ≤ m → actedAt t saved r ≡ R.acted 15 before-it → actedAt t saved r ≡ R.markSet before-it m
-    unfolding R.markSet
-    no-mark-set r l e = e ∙ sym (ap (λ b. cond b (R.acted 0 (R.marked (before-it .working) (R.withMark m (before-it .working) (before-it .marks)))) (R.acted 15 before-it)) (le-ltb m 8 l))
+    no-mark-set r l e = e ∙ sym (no-mark-is before-it m l)
 
     module _ (l : m < 8) (eight-saved : length saved ≡ 8) (eight-marks : length (s .marks) ≡ 8) where
       same-saved : (i : ℕ) → i ≡ m → getD (set saved m t) i [] ≡ t
@@ -111,11 +104,10 @@ module _ (t : Square) (saved : List Square) (s : MarkedPlace) where
           ∙ sym (ap (λ b. cond b (R.saved (workAt t (s .place))) (markAt (getD saved i []) (markIn (s .marks) i))) (ne-eqb i m d)))
 
       pub marks-so : s .place .refusal ≡ 0 → actedAt t (set saved m t) (withSaved m s) ≡ R.markSet before-it m
-      unfolding R.markSet
       marks-so z =
           ap (λ k. R.acted k (markedAt t (set saved m t) (withSaved m s))) z
           ∙ ap (λ (f : ℕ → R.Mark). R.acted 0 (R.marked (workAt t (s .place)) f)) (fun-ext marks-set)
-          ∙ sym (ap (λ b. cond b (R.acted 0 (R.marked (before-it .working) (R.withMark m (before-it .working) (before-it .marks)))) (R.acted 15 before-it)) (lt-ltb m 8 l))
+          ∙ sym (mark-is before-it m l)
 
       pub mark-keeps : (whole : Bool) (n : ℕ) → KeepLawful whole n t saved s t (set saved m t) (withSaved m s)
       mark-keeps whole n all z = record {
@@ -134,23 +126,17 @@ module _ (t : Square) (saved : List Square) (s : MarkedPlace) where
 
     -- A RETURN
     pub nowhere-to : (r : MarkedPlace) → 8 ≤ m → actedAt t saved r ≡ R.acted 15 before-it → actedAt t saved r ≡ R.returnedTo before-it m
-    unfolding R.returnedTo
-    nowhere-to r l e = e ∙ sym (ap (λ b. cond b (R.restored before-it (marksAt saved (s .marks) m)) (R.acted 15 before-it)) (le-ltb m 8 l))
+    nowhere-to r l e = e ∙ sym (no-return-is before-it m l)
 
     module _ (l : m < 8) where
-      restored-is : {a : R.Mark} → marksAt saved (s .marks) m ≡ a → R.returnedTo before-it m ≡ R.restored before-it a
-      unfolding R.returnedTo
-      restored-is e =
-          ap (λ b. cond b (R.restored before-it (marksAt saved (s .marks) m)) (R.acted 15 before-it)) (lt-ltb m 8 l) ∙ ap (R.restored before-it) e
-
       -- the mark that was read
       module _ (x : MarkPlace) (is : x ≡ markIn (s .marks) m) where
-        mark-is : {b : Bool} → x .set ≡ b → marksAt saved (s .marks) m ≡ cond b (R.saved (workAt (getD saved m []) (markIn (s .marks) m .place))) R.unset
+        saved-is : {b : Bool} → x .set ≡ b → marksAt saved (s .marks) m ≡ cond b (R.saved (workAt (getD saved m []) (markIn (s .marks) m .place))) R.unset
         unfolding marksAt
-        mark-is h = ap (λ b. cond b (R.saved (workAt (getD saved m []) (markIn (s .marks) m .place))) R.unset) (sym (ap (λ (y : MarkPlace). y .set) is) ∙ h)
+        saved-is h = ap (λ b. cond b (R.saved (workAt (getD saved m []) (markIn (s .marks) m .place))) R.unset) (sym (ap (λ (y : MarkPlace). y .set) is) ∙ h)
 
         pub not-set-to : (r : MarkedPlace) → x .set ≡ false → actedAt t saved r ≡ R.acted 15 before-it → actedAt t saved r ≡ R.returnedTo before-it m
-        not-set-to r h e = e ∙ sym (restored-is (mark-is h))
+        not-set-to r h e = e ∙ sym (return-is before-it m l (saved-is h))
 
         module _ (h : x .set ≡ true) where
           set-there : markIn (s .marks) m .set ≡ true
@@ -160,7 +146,7 @@ module _ (t : Square) (saved : List Square) (s : MarkedPlace) where
           returns-so un =
               ap (λ (y : MarkPlace). actedAt (getD saved m []) saved (withPlace (y .place) s)) is
               ∙ ap (λ k. R.acted k (R.marked (workAt (getD saved m []) (markIn (s .marks) m .place)) (marksAt saved (s .marks)))) (un m l set-there)
-              ∙ sym (restored-is (mark-is h))
+              ∙ sym (return-is before-it m l (saved-is h))
 
           pub return-keeps : (whole : Bool) (n : ℕ) → KeepLawful whole n t saved s (getD saved m []) saved (withPlace (x .place) s)
           return-keeps whole n all z = record {
@@ -170,29 +156,17 @@ module _ (t : Square) (saved : List Square) (s : MarkedPlace) where
             eight-marks = all .eight-marks;
           }
 
--- BY KIND, with its number as the code reads it
-module _ (whole : Bool) (n : ℕ) (s : R.Marked) (r : Record) {x : ℕ} (is : x ≡ r .number) {a : R.Acted} where
-  pub kind-step : r .kind ≡ 0 → a ≡ R.stepped whole n s x → a ≡ R.acts whole n s r
-  unfolding R.acts
-  kind-step e h = rw (e, ← is) h
-
-  pub kind-mark : r .kind ≡ 1 → a ≡ R.markSet s x → a ≡ R.acts whole n s r
-  unfolding R.acts
-  kind-mark e h = rw (e, ← is) h
-
-  pub kind-return : r .kind ≡ 2 → a ≡ R.returnedTo s x → a ≡ R.acts whole n s r
-  unfolding R.acts
-  kind-return e h = rw (e, ← is) h
-
-pub kind-other : (whole : Bool) (n : ℕ) (s : R.Marked) (r : Record) {a : R.Acted} → 3 ≤ r .kind → a ≡ R.acted 14 s → a ≡ R.acts whole n s r
-unfolding R.acts
-kind-other whole n s r l h = h ∙ sym (go (r .kind) l)
-  where
-    go : (k : ℕ) → 3 ≤ k → R.actsIn k whole n s (r .number) ≡ R.acted 14 s
-    go zero l = absurd (omega arith)
-    go (suc zero) l = absurd (omega arith)
-    go (suc (suc zero)) l = absurd (omega arith)
-    go (suc (suc (suc k))) l = refl
-
+-- a kind that is none of three
 pub above : (k : ℕ) → k ≢ 0 → k ≢ 1 → k ≢ 2 → 3 ≤ k
 above k a b c = omega arith
+
+-- BY KIND, with its number as the code reads it
+module _ (whole : Bool) (n : ℕ) (s : R.Marked) (r : Record) {x : ℕ} (is : x ≡ r .number) {a : R.Acted} where
+  pub step-acts : r .kind ≡ 0 → a ≡ R.stepped whole n s x → a ≡ R.acts whole n s r
+  step-acts e h = h ∙ ap (R.stepped whole n s) is ∙ sym (kind-step whole n s r e)
+
+  pub mark-acts : r .kind ≡ 1 → a ≡ R.markSet s x → a ≡ R.acts whole n s r
+  mark-acts e h = h ∙ ap (R.markSet s) is ∙ sym (kind-mark whole n s r e)
+
+  pub return-acts : r .kind ≡ 2 → a ≡ R.returnedTo s x → a ≡ R.acts whole n s r
+  return-acts e h = h ∙ ap (R.returnedTo s) is ∙ sym (kind-return whole n s r e)

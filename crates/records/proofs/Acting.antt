@@ -10,7 +10,7 @@ use Rattle.roommates.specs.PhaseOne.{Work}
 use Rattle.roommates.specs.Moves.{outcome, move}
 use Rattle.roommates.proofs.ChoicesRefused.{Tried, fit-step, fit-cut, unfit, tried, unfit-move, unfit-number}
 use Rattle.records.specs.declared.Record.{Record}
-use Rattle.records.specs.Records.{recordOf, Mark, unset, saved, Marked, marked, withMark, acted, stepped, markSet, restored, returnedTo, acts}
+use Rattle.records.specs.Records.{recordOf, Mark, unset, saved, Marked, marked, withMark, acted, stepped, markSet, restored, returnedTo, actsIn, acts}
 use Rattle.records.specs.Claims.{UnfitRecord, unfit-step, no-kind, no-mark, not-set}
 
 -- is a mark set?
@@ -28,31 +28,52 @@ unfit-record-number (no-kind l) = (omega arith, omega arith)
 unfit-record-number (no-mark e l) = (omega arith, omega arith)
 unfit-record-number (not-set e h) = (omega arith, omega arith)
 
+-- a mark that is one, or is none: set, and returned to
+module _ (s : Marked) (m : ℕ) where
+  pub mark-is : m < 8 → markSet s m ≡ acted 0 (marked (s .working) (withMark m (s .working) (s .marks)))
+  unfolding markSet
+  mark-is l = rw (lt-ltb m 8 l) refl
+
+  pub no-mark-is : 8 ≤ m → markSet s m ≡ acted 15 s
+  unfolding markSet
+  no-mark-is l = rw (le-ltb m 8 l) refl
+
+  pub return-is : {a : Mark} → m < 8 → s .marks m ≡ a → returnedTo s m ≡ restored s a
+  unfolding returnedTo
+  return-is l e = rw (lt-ltb m 8 l) (ap (restored s) e)
+
+  pub no-return-is : 8 ≤ m → returnedTo s m ≡ acted 15 s
+  unfolding returnedTo
+  no-return-is l = rw (le-ltb m 8 l) refl
+
 module _ (whole : Bool) (n : ℕ) where
-  -- By kind.
-  acts-step : (s : Marked) (x : ℕ) {k : ℕ} {v : Work} → move whole n (s .working) x ≡ outcome k v → acts whole n s (recordOf 0 x) ≡ acted k (marked v (s .marks))
-  unfolding acts stepped
-  acts-step s x e = rw e refl
+  pub step-is : (s : Marked) (x : ℕ) {k : ℕ} {v : Work} → move whole n (s .working) x ≡ outcome k v → stepped whole n s x ≡ acted k (marked v (s .marks))
+  unfolding stepped
+  step-is s x e = rw e refl
 
-  acts-mark : (s : Marked) (m : ℕ) → m < 8 → acts whole n s (recordOf 1 m) ≡ acted 0 (marked (s .working) (withMark m (s .working) (s .marks)))
-  unfolding acts markSet
-  acts-mark s m l = rw (lt-ltb m 8 l) refl
+  -- A RECORD, by its kind
+  module _ (s : Marked) (r : Record) where
+    pub kind-step : r .kind ≡ 0 → acts whole n s r ≡ stepped whole n s (r .number)
+    unfolding acts
+    kind-step e = rw e
 
-  acts-unmarked : (s : Marked) (m : ℕ) → 8 ≤ m → acts whole n s (recordOf 1 m) ≡ acted 15 s
-  unfolding acts markSet
-  acts-unmarked s m l = rw (le-ltb m 8 l) refl
+    pub kind-mark : r .kind ≡ 1 → acts whole n s r ≡ markSet s (r .number)
+    unfolding acts
+    kind-mark e = rw e
 
-  acts-return : (s : Marked) (m : ℕ) → m < 8 → acts whole n s (recordOf 2 m) ≡ restored s (s .marks m)
-  unfolding acts returnedTo
-  acts-return s m l = rw (lt-ltb m 8 l) refl
+    pub kind-return : r .kind ≡ 2 → acts whole n s r ≡ returnedTo s (r .number)
+    unfolding acts
+    kind-return e = rw e
 
-  acts-nowhere : (s : Marked) (m : ℕ) → 8 ≤ m → acts whole n s (recordOf 2 m) ≡ acted 15 s
-  unfolding acts returnedTo
-  acts-nowhere s m l = rw (le-ltb m 8 l) refl
-
-  acts-otherwise : (s : Marked) (k x : ℕ) → acts whole n s (recordOf (suc (suc (suc k))) x) ≡ acted 14 s
-  unfolding acts
-  acts-otherwise s k x = refl
+    pub kind-other : 3 ≤ r .kind → acts whole n s r ≡ acted 14 s
+    unfolding acts
+    kind-other l = go (r .kind) l
+      where
+        go : (k : ℕ) → 3 ≤ k → actsIn k whole n s (r .number) ≡ acted 14 s
+        go zero l = absurd (omega arith)
+        go (suc zero) l = absurd (omega arith)
+        go (suc (suc zero)) l = absurd (omega arith)
+        go (suc (suc (suc k))) l = refl
 
   pub data Does (s : Marked) (r : Record) : Type 0 where
     does-step : {v : Work} → r .kind ≡ 0 → move whole n (s .working) (r .number) ≡ outcome 0 v
@@ -64,41 +85,39 @@ module _ (whole : Bool) (n : ℕ) where
   does-kind : (s : Marked) (k x : ℕ) → Does s (recordOf k x)
   does-kind s zero x = by-choice (tried whole n (s .working) x)
     where
+      is : {k : ℕ} {v : Work} → move whole n (s .working) x ≡ outcome k v → acts whole n s (recordOf 0 x) ≡ acted k (marked v (s .marks))
+      is m = kind-step s (recordOf 0 x) refl ∙ step-is s x m
+
       by-choice : Tried whole n (s .working) x → Does s (recordOf 0 x)
-      by-choice (fit-step h l e m) = does-step refl m (acts-step s x m)
-      by-choice (fit-cut h l e m) = does-step refl m (acts-step s x m)
-      by-choice (unfit k d u m) = does-nothing (unfit-step refl u) (acts-step s x m)
+      by-choice (fit-step h l e m) = does-step refl m (is m)
+      by-choice (fit-cut h l e m) = does-step refl m (is m)
+      by-choice (unfit k d u m) = does-nothing (unfit-step refl u) (is m)
   does-kind s (suc zero) m =
-      case (lt-ge m 8) (λ l. does-mark refl (acts-mark s m l)) (λ l. does-nothing (no-mark (inl refl) l) (acts-unmarked s m l))
+      let is = kind-mark s (recordOf 1 m) refl in
+      case (lt-ge m 8) (λ l. does-mark refl (is ∙ mark-is s m l)) (λ l. does-nothing (no-mark (inl refl) l) (is ∙ no-mark-is s m l))
   does-kind s (suc (suc zero)) m =
-      case (lt-ge m 8) (λ l. by-mark (s .marks m) refl (acts-return s m l)) (λ l. does-nothing (no-mark (inr refl) l) (acts-nowhere s m l))
+      case (lt-ge m 8) (λ l. by-mark (s .marks m) refl l) (λ l. does-nothing (no-mark (inr refl) l) (is ∙ no-return-is s m l))
     where
-      by-mark : (a : Mark) → s .marks m ≡ a → acts whole n s (recordOf 2 m) ≡ restored s (s .marks m) → Does s (recordOf 2 m)
-      by-mark unset e h = does-nothing (not-set refl (ap isSaved e)) (h ∙ ap (restored s) e)
-      by-mark (saved w) e h = does-return refl e (h ∙ ap (restored s) e)
-  does-kind s (suc (suc (suc k))) x = does-nothing (no-kind (omega arith)) (acts-otherwise s k x)
+      is : acts whole n s (recordOf 2 m) ≡ returnedTo s m
+      is = kind-return s (recordOf 2 m) refl
+
+      by-mark : (a : Mark) → s .marks m ≡ a → m < 8 → Does s (recordOf 2 m)
+      by-mark unset e l = does-nothing (not-set refl (ap isSaved e)) (is ∙ return-is s m l e)
+      by-mark (saved w) e l = does-return refl e (is ∙ return-is s m l e)
+  does-kind s (suc (suc (suc k))) x = does-nothing (no-kind (omega arith)) (kind-other s (recordOf (suc (suc (suc k))) x) (omega arith))
 
   pub does : (s : Marked) (r : Record) → Does s r
   does s r = does-kind s (r .kind) (r .number)
 
   -- A record that may not come is refused with its number, and leaves all as it was.
   pub unfit-acts : {s : Marked} {r : Record} {k : ℕ} → UnfitRecord n (s .working) (isSetIn s) r k → acts whole n s r ≡ acted k s
-  unfit-acts {s} {r} u = go (r .kind) (r .number) u
+  unfit-acts {s} {r} (unfit-step e u) = kind-step s r e ∙ step-is s (r .number) (unfit-move whole n u)
+  unfit-acts {s} {r} (no-kind l) = kind-other s r l
+  unfit-acts {s} {r} (no-mark e l) =
+      case e (λ e. kind-mark s r e ∙ no-mark-is s (r .number) l) (λ e. kind-return s r e ∙ no-return-is s (r .number) l)
+  unfit-acts {s} {r} (not-set e h) =
+      kind-return s r e ∙ case (lt-ge (r .number) 8) (λ l. by-mark (s .marks (r .number)) refl h l) (λ l. no-return-is s (r .number) l)
     where
-      go : (i x : ℕ) {k : ℕ} → UnfitRecord n (s .working) (isSetIn s) (recordOf i x) k → acts whole n s (recordOf i x) ≡ acted k s
-      go i x (unfit-step e u) = ap (λ j. acts whole n s (recordOf j x)) e ∙ acts-step s x (unfit-move whole n u)
-      go i x (no-mark e l) =
-          case e
-          (λ e. ap (λ j. acts whole n s (recordOf j x)) e ∙ acts-unmarked s x l)
-          (λ e. ap (λ j. acts whole n s (recordOf j x)) e ∙ acts-nowhere s x l)
-      go i x (not-set e h) =
-          ap (λ j. acts whole n s (recordOf j x)) e
-          ∙ case (lt-ge x 8) (λ l. acts-return s x l ∙ by-mark (s .marks x) h) (λ l. acts-nowhere s x l)
-        where
-          by-mark : (a : Mark) → isSaved a ≡ false → restored s a ≡ acted 15 s
-          by-mark unset h = refl
-          by-mark (saved w) h = absurd (true≢false h)
-      go (suc (suc (suc i))) x (no-kind l) = acts-otherwise s i x
-      go (suc (suc zero)) x (no-kind l) = absurd (omega arith)
-      go (suc zero) x (no-kind l) = absurd (omega arith)
-      go zero x (no-kind l) = absurd (omega arith)
+      by-mark : (a : Mark) → s .marks (r .number) ≡ a → isSaved a ≡ false → r .number < 8 → returnedTo s (r .number) ≡ acted 15 s
+      by-mark unset e h l = return-is s (r .number) l e
+      by-mark (saved w) e h l = absurd (true≢false h)

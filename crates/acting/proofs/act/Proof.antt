@@ -1,6 +1,8 @@
 -- One record, by its kind.
 use Prim.Native.Nat.{_≤_}
-use Rattle.acting.proofs.LawsActing.{refused-keeps, kind-step, kind-mark, kind-return, kind-other, above}
+use mathlib.Core.Path.{sym, _∙_}
+use Rattle.records.proofs.Acting.{kind-other}
+use Rattle.acting.proofs.LawsActing.{refused-keeps, step-acts, mark-acts, return-acts, above}
 use borrow.Author.Needs.{needs}
 use Rattle.acting.proofs.act.Statement.{statement}
 use Rattle.acting.proofs.act.Tie as tie
@@ -24,7 +26,7 @@ returns : tie.Need-returns
 returns c =
     let read = c .before .before .before in
     let start = read .before in (
-      kind-step _ _ _ (start .args .choice) (read .wide .ensures .0) (c .before .before .match .keys1) (c .step .ensures .0 _),
+      step-acts _ _ _ (start .args .choice) (read .wide .ensures .0) (c .before .before .match .keys1) (c .step .ensures .0 _),
       c .step .ensures .1 _ (start .pre),
     )
 
@@ -32,7 +34,7 @@ returns-2 : tie.Need-returns-2
 returns-2 c =
     let read = c .before .before .before .before in
     let start = read .before in (
-      kind-mark _ _ _ (start .args .choice) (read .wide .ensures .0) (c .before .before .before .match .keys2) (c .set-mark .ensures .0),
+      mark-acts _ _ _ (start .args .choice) (read .wide .ensures .0) (c .before .before .before .match .keys2) (c .set-mark .ensures .0),
       c .set-mark .ensures .1 _ _ (start .pre),
     )
 
@@ -40,7 +42,7 @@ returns-3 : tie.Need-returns-3
 returns-3 c =
     let read = c .before .before .before .before in
     let start = read .before in (
-      kind-return _ _ _ (start .args .choice) (read .wide .ensures .0) (c .before .before .before .match .keys3) (c .return-to .ensures .0),
+      return-acts _ _ _ (start .args .choice) (read .wide .ensures .0) (c .before .before .before .match .keys3) (c .return-to .ensures .0),
       c .return-to .ensures .1 _ _ (start .pre),
     )
 
@@ -51,7 +53,7 @@ returns-4 c =
     let e = c .refuse-record .ensures _ _ in
     let over : 3 ≤ start .args .choice .kind
     = above (start .args .choice .kind) (c .before .match .rest .0 .0 .1) (c .before .match .rest .0 .1) (c .before .match .rest .1) in (
-      kind-other _ _ _ (start .args .choice) over e,
+      e ∙ sym (kind-other _ _ _ (start .args .choice) over),
       refused-keeps _ _ (start .args .state) r _ _ e (start .pre),
     )
 

@@ -2,7 +2,8 @@
 use Prim.Native.Nat.{_<_}
 use native.Mathlib.Omega.{arith}
 use borrow.Author.Tests.{not-true, not-false}
-use Rattle.acting.proofs.LawsActing.{there, refused-keeps, nowhere-to, not-set-to, returns-so, return-keeps}
+use Rattle.base.proofs.Places.{getD-inside}
+use Rattle.acting.proofs.LawsActing.{refused-keeps, nowhere-to, not-set-to, returns-so, return-keeps}
 use borrow.Author.Needs.{needs}
 use Rattle.acting.proofs.return_to.Statement.{statement}
 use Rattle.acting.proofs.return_to.Tie as tie
@@ -34,7 +35,7 @@ returns-2 c =
     let l : a .args .m < 8 = omega (arith, tested .if1 .left) in
     let r = c .refuse-record2 .result in
     let e = c .refuse-record2 .ensures _ _ in
-    let read = there (s .marks) (a .args .m) _ _ (omega (arith, a .pre .1)) in
+    let read = getD-inside (s .marks) (a .args .m) _ _ (omega (arith, a .pre .1)) in
     (not-set-to _ _ s _ l _ read r (not-true _ (c .before .if2 .taken)) e, λ whole n. refused-keeps _ _ s r whole n e)
 
 mul-lists : tie.Need-mul-lists
@@ -52,7 +53,7 @@ returns-3 c =
     let a = tested .before in
     let s = a .args .state in
     let l : a .args .m < 8 = omega (arith, tested .if1 .left) in
-    let read = there (s .marks) (a .args .m) _ _ (omega (arith, a .pre .1)) in
+    let read = getD-inside (s .marks) (a .args .m) _ _ (omega (arith, a .pre .1)) in
     let yes = not-false _ (c .before .before .if2 .left) in
     rw (c .restore .ensures) (returns-so _ _ s _ l _ read yes (a .pre .0), return-keeps _ _ s _ l _ read yes)
 
