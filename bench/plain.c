@@ -256,12 +256,18 @@ static bool received_and_emptied(const struct working *w)
 
 /* ---- phase two */
 
-static int lowest_longer(const struct working *w)
+/* the joint with the longest list, and among equals the highest; n where no list is longer than one */
+static int longest_list(const struct working *w)
 {
-    int x = 0;
-    while (x < w->n && list_length(w, x) < 2)
-        x++;
-    return x;
+    int best = w->n, most = 2;
+    for (int x = 0; x < w->n; x++) {
+        int length = list_length(w, x);
+        if (length >= most) {
+            best = x;
+            most = length;
+        }
+    }
+    return best;
 }
 
 /* Strikes v's worst band from v's list and runs phase one afresh. Does it leave no list empty but those set aside? */
@@ -292,7 +298,7 @@ static bool cut(struct working *w, int x)
 static int phase_two(struct working *w, struct records *c)
 {
     for (;;) {
-        int x = lowest_longer(w);
+        int x = longest_list(w);
         if (x == w->n) {
             w->verdict = PAIRED;
             return 0;

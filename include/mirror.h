@@ -31,8 +31,9 @@
  *   2, mark    Returns to a mark: the work is again as it was when that mark was last set, whether it has ended since or not.
  *              Marks stay as they are, those set since too.
  * The steps that stand are those that stood when the mark was set, and later ones follow them. The answer is that of the
- * steps standing at the end, without marks and returns. Where there are no choices, or when they run out, the lowest joint
- * allowed is taken. No legal choices change whether there is a pairing, how many joints it pairs, or the shortened lists.
+ * steps standing at the end, without marks and returns. Where there are no choices, or when they run out, a rule names the
+ * joints: in the first phase the lowest that waits, in the second the one with the longest remaining list, and among equals
+ * the highest number. No legal choices change whether there is a pairing, how many joints it pairs, or the shortened lists.
  * They may change which of several super-stable pairings is found. Most callers pass NULL, 0. For a sheet whose first phase
  * takes a step of each of the joints 0 to 3, a cut that is tried and taken back, and another in its place:
  *     static const uint8_t choices[] = {
@@ -130,7 +131,7 @@ enum mirror_refusal {
  * program that is linked against a library other than the header it was compiled with can tell:
  *     if (mirror_version() != MIRROR_VERSION) ...
  */
-#define MIRROR_VERSION 3
+#define MIRROR_VERSION 4
 uint32_t mirror_version(void);
 
 /*

@@ -1,7 +1,8 @@
--- The numbers below n: does any pass a test, do all, how many, which is the lowest; sums and lists over them.
+-- The numbers below n: does any pass a test, do all, how many, which is the lowest; sums and lists over them; where a function is greatest.
 use mathlib.Core.Bool.{Bool, true, false, _&&_, _||_, cond}
 use mathlib.Core.List.{List, [], _++_}
 use Prim.Native.Nat.{ℕ, zero, suc, _+_}
+use lib.Dec.{leb}
 
 unfoldable pub anyBelow : ℕ → (ℕ → Bool) → Bool
 anyBelow zero test = false
@@ -28,6 +29,13 @@ lowestFrom (suc f) i test =
 
 abbrev pub lowest : ℕ → (ℕ → Bool) → ℕ
 lowest n test = lowestFrom n 0 test
+
+-- the number below n at which f is greatest, and among equals the highest; 0 where n is 0
+unfoldable pub argmax : ℕ → (ℕ → ℕ) → ℕ
+argmax zero f = 0
+argmax (suc i) f =
+    let best = argmax i f in
+    cond (leb (f best) (f i)) i best
 
 -- the parts of 0, 1, 2 and so on, one behind the other
 unfoldable pub joined : ℕ → (ℕ → List ℕ) → List ℕ

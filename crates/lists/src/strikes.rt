@@ -7,7 +7,7 @@ ghost use lib.ListN.{getD};
 ghost use Rattle.roommates.specs.Lists.{row, struck, strikeIf};
 ghost use Rattle.base.specs.Below.{lowest};
 ghost use Rattle.roommates.specs.PhaseOne.{listWaits, stands, standingAt};
-ghost use Rattle.roommates.specs.PhaseTwo.{longer};
+ghost use Rattle.roommates.specs.PhaseTwo.{longestList};
 ghost use Rattle.lists.specs.Hits.{hits};
 
 pub fn lowest_waiting(n: usize, bands: &[[u8; 128]; 128], reach: &[u8; 128]) -> usize
@@ -24,18 +24,23 @@ pub fn lowest_waiting(n: usize, bands: &[[u8; 128]; 128], reach: &[u8; 128]) -> 
     n
 }
 
-pub fn lowest_longer(n: usize, bands: &[[u8; 128]; 128]) -> usize
+// the joint with the longest list, and among equals the highest
+pub fn longest_list(n: usize, bands: &[[u8; 128]; 128]) -> usize
     requires { ⌜ n ≤ 128 ⌝ }
-    ensures { λ r. ⌜ r ≡ lowest n (λ x. longer n (now (bands .entry)) x) ⌝ }
+    ensures { λ r. ⌜ r ≡ longestList n (now (bands .entry)) ⌝ }
 {
+    let mut best = 0;
+    let mut longest = list_length(n, &bands[0]);
     let mut x = 0;
     while x < n {
-        if 2 <= list_length(n, &bands[x]) {
-            return x;
+        let length = list_length(n, &bands[x]);
+        if longest <= length {
+            best = x;
+            longest = length;
         }
         x += 1;
     }
-    n
+    best
 }
 
 // does a proposal of a joint that last proposed to band k stand where it has band b?

@@ -12,7 +12,7 @@ use Rattle.calls.specs.declared.Counts.{Counts}
 
 -- The version of the interface: raised by each landing that changes the meaning or the signature of a call.
 abbrev pub version : ℕ
-version = 3
+version = 4
 
 -- a refusal's number, a verdict and a count in 32 bits
 abbrev pub packed : ℕ → ℕ → ℕ → ℕ

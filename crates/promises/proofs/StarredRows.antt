@@ -2,7 +2,7 @@
 use mathlib.Core.Path.{_≡_, refl}
 use mathlib.Core.List.{[], _∷_, _++_}
 use lib.ListN.{replicate}
-use Rattle.base.specs.Below.{anyBelow, allBelow, countBelow, sumBelow, lowestFrom, joined}
+use Rattle.base.specs.Below.{anyBelow, allBelow, countBelow, sumBelow, lowestFrom, argmax, joined}
 use Rattle.base.specs.Faults.{firstFault, faultBelow}
 use Rattle.sections.specs.Labels.{visibleRun, allZero, labelOk, sameBytes, repeats, labelBad, labelsFault}
 use Rattle.sections.specs.Entries.{entryIn, entriesFrom, bandIn, entryFault}
@@ -14,7 +14,7 @@ use Rattle.blocking.specs.Blocking.{welcomes, isApart, blocks, blocker, blockin
 use Rattle.blocking.specs.Answers.{offerOf}
 use Rattle.roommates.specs.Lists.{bestBand, worstBand, firstOn, strikeIf}
 use Rattle.roommates.specs.PhaseOne.{listWaits, proposed, proposeAll, receiveAll, step, runOut, someEmptied}
-use Rattle.roommates.specs.PhaseTwo.{trial, asideBelow, noneEmptied, cutAt}
+use Rattle.roommates.specs.PhaseTwo.{trial, asideBelow, noneEmptied, cutAt, longestList}
 use Rattle.roommates.specs.Moves.{inTwo, endOne, inOne, move, ruled, concluded}
 use Rattle.roommates.specs.Left.{partnerOn, pairingOf, entry, listBytes}
 use Rattle.records.specs.Records.{recordsOf, stepped, markSet, returnedTo, acts, follows, workedBy}
@@ -34,23 +34,24 @@ _&_ : {A B : Type 0} → A → B → A × B
 a & b = (a, b)
 
 pub starred : AllHold rows
-unfolding isIn bandFrom entriesOnward sheetOf anyBelow allBelow countBelow sumBelow lowestFrom joined firstFault
+unfolding isIn bandFrom entriesOnward sheetOf anyBelow allBelow countBelow sumBelow lowestFrom argmax joined firstFault
     faultBelow visibleRun allZero labelOk sameBytes repeats labelBad labelsFault entryIn entriesFrom bandIn
     entryFault only sheetFaults sheetFault placed isPaired isPlaced isMatching
     pairedJoints aloneCount welcomes isApart blocks blocker blockingPair isSuperStable offerOf bestBand
     worstBand firstOn strikeIf listWaits proposed proposeAll receiveAll step runOut someEmptied trial
-    asideBelow noneEmptied cutAt inTwo endOne inOne move ruled concluded stepBytes recordsOf stepped
+    asideBelow noneEmptied cutAt longestList inTwo endOne inOne move ruled concluded stepBytes recordsOf stepped
     markSet returnedTo acts follows workedBy partnerOn pairingOf entry listBytes
 starred =
     (refl, refl) & (refl, refl) & (refl, refl)
     & (refl, refl) & (refl, refl) & (refl, refl)
-    & (refl, refl) & (refl, refl) & (refl, refl)
+    & (refl, refl) & (refl, refl) & (refl, refl) & (refl, refl)
     & refl
     & (refl, refl) & (refl, refl) & (refl, refl)
     & (refl, refl) & (refl, refl) & (refl, refl)
     & (refl, refl) & (refl, refl) & (refl, refl)
     & refl & refl & refl & refl
     & refl & refl & refl & refl
+    & refl & refl & refl & (refl, refl) & refl & (refl, refl) & (refl, refl) & (refl, refl)
     & (refl, refl) & refl & (refl, refl) & refl & (refl, refl)
     & (refl, refl) & refl & refl & (refl, refl)
     & (refl, refl) & (refl, refl) & (refl, refl) & (refl, refl)

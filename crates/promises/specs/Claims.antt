@@ -18,9 +18,12 @@ use Rattle.matching.specs.Matchings.{partner, pairCount, pairNumber}
 use Rattle.blocking.specs.Blocking.{isSuperStable}
 use Rattle.matching.specs.Plain.{Matching}
 use Rattle.blocking.specs.Plain.{SuperStable, LowestBlocking}
+use Rattle.roommates.specs.declared.Stage.the-variants.{Cutting}
 use Rattle.roommates.specs.PhaseOne.{Work}
+use Rattle.roommates.specs.Moves.{begun}
 use Rattle.roommates.specs.Runs.{OneEnded, Arrived}
 use Rattle.roommates.specs.Histories.{proposalsIn, stepsTo, cutsTo}
+use Rattle.roommates.specs.Claims.{Made, LongestList}
 use Rattle.records.specs.Records.{recordsOf, isOdd, workedBy}
 use Rattle.records.specs.Standing.{standing, stepBytes}
 use Rattle.records.specs.Claims.{RecordRefused, BytesRefused}
@@ -146,6 +149,18 @@ pub record CallReplayed (s cs : List ℕ) : Type 0 where
 
 abbrev pub CallsReplayed : Type 0
 CallsReplayed = (s cs : List ℕ) → CallReplayed s cs
+
+-- WHERE CHOICES HAVE RUN OUT in phase two. The steps cs were made and left the working w: to leave off there is to choose the joint x with
+-- the longest remaining list, and among equals the highest number.
+pub record LeftOffAlike (s cs : List ℕ) (w : Work) (x : ℕ) : Type 0 where
+  pub longest : LongestList (joints s) (w .lists) x
+  pub settle-alike : (out : List ℕ) → (settleAnswer s (stepBytes cs) out ≡ settleAnswer s (stepBytes (cs ++ (x ∷ []))) out)
+      × (settleBytes s (stepBytes cs) out ≡ settleBytes s (stepBytes (cs ++ (x ∷ []))) out)
+  pub counts-alike : countsOf true s (stepBytes cs) ≡ countsOf true s (stepBytes (cs ++ (x ∷ [])))
+
+abbrev pub LongestIsCut : Type 0
+LongestIsCut = (s cs : List ℕ) (w : Work) → sheetFault s ≡ 0 → Made true (joints s) (begun true (joints s) (squareOf s)) cs w → w .stage ≡ Cutting
+    → (x : ℕ) × LeftOffAlike s cs w x
 
 -- CHECK, for every sheet s and offered pairing m.
 pub record CheckKeeps (s m : List ℕ) : Type 0 where

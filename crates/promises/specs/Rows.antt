@@ -1,5 +1,6 @@
--- The starred rows of document 01, "Sheets to try", rows of the same sheets that call shorten and the counts, rows with marks and returns, and
--- rows of a sheet with an entry that is not returned: for each call what it answers, and the buffer before and after settle and shorten.
+-- The starred rows of documents 01 and 02, rows of the same sheets that call shorten and the counts, rows with marks and returns, rows that tell
+-- the rule from others, and rows of a sheet with an entry that is not returned: for each call what it answers, and the buffer before and after
+-- settle and shorten.
 use mathlib.Core.Path.{_≡_}
 use mathlib.Core.Bool.{Bool, true, false, _||_, cond}
 use mathlib.Core.List.{List, [], _∷_, _++_}
@@ -93,6 +94,22 @@ abbrev pub sheet-i : List ℕ
 sheet-i =
     sheetOf ((only 1 ∷ tie 2 3 ∷ []) ∷ (only 0 ∷ tie 2 3 ∷ []) ∷ (only 3 ∷ tie 0 1 ∷ []) ∷ (only 2 ∷ tie 0 1 ∷ []) ∷ [])
 
+-- 0: 1; 1: 2 0; 2: 1: in the order 0, 1, 2 each makes a proposal; in the order 1, 2, which is by the longest list, 0 is struck before it makes any
+abbrev pub sheet-three : List ℕ
+sheet-three = sheetOf ((only 1 ∷ []) ∷ (only 2 ∷ only 0 ∷ []) ∷ (only 1 ∷ []) ∷ [])
+
+-- 0: 1 5; 1: 2 4 0; 2: 3 1; 3: 4 2; 4: 5 1 3; 5: 0 4: phase one strikes nothing, and 1 and 4 have the longest lists
+abbrev pub sheet-ring : List ℕ
+sheet-ring =
+    sheetOf
+    ((only 1 ∷ only 5 ∷ [])
+    ∷ (only 2 ∷ only 4 ∷ only 0 ∷ [])
+    ∷ (only 3 ∷ only 1 ∷ [])
+    ∷ (only 4 ∷ only 2 ∷ [])
+    ∷ (only 5 ∷ only 1 ∷ only 3 ∷ [])
+    ∷ (only 0 ∷ only 4 ∷ [])
+    ∷ [])
+
 -- 0: 2 1; 1: 0; 2 lists nobody, so joint 0's first is not returned
 abbrev pub sheet-one-sided : List ℕ
 sheet-one-sided = sheetOf ((only 2 ∷ only 1 ∷ []) ∷ (only 0 ∷ []) ∷ [] ∷ [])
@@ -147,9 +164,10 @@ rows =
     ∷ settle-row sheet-d [] (buffer 5) (S.Ended (E.None P.One)) (buffer 5)
     ∷ settle-row sheet-e [] (buffer 6) (S.Ended (E.None P.One)) (buffer 6)
     ∷ settle-row sheet-f [] (buffer 6) (S.Ended (E.None P.Two)) (buffer 6)
-    -- g, h, i
-    ∷ settle-row sheet-g [] (buffer 6) (S.Ended (E.Paired 2)) (3 ∷ 2 ∷ 1 ∷ 0 ∷ 9 ∷ 9 ∷ [])
+    -- g, h, h′, i
+    ∷ settle-row sheet-g [] (buffer 6) (S.Ended (E.Paired 2)) (1 ∷ 0 ∷ 3 ∷ 2 ∷ 9 ∷ 9 ∷ [])
     ∷ settle-row sheet-g (steps (0 ∷ 1 ∷ 2 ∷ 3 ∷ 1 ∷ [])) (buffer 6) (S.Ended (E.Paired 2)) (1 ∷ 0 ∷ 3 ∷ 2 ∷ 9 ∷ 9 ∷ [])
+    ∷ settle-row sheet-g (steps (0 ∷ 1 ∷ 2 ∷ 3 ∷ 0 ∷ [])) (buffer 6) (S.Ended (E.Paired 2)) (3 ∷ 2 ∷ 1 ∷ 0 ∷ 9 ∷ 9 ∷ [])
     ∷ settle-row sheet-i [] (buffer 6) (S.Ended (E.Paired 2)) (1 ∷ 0 ∷ 3 ∷ 2 ∷ 9 ∷ 9 ∷ [])
     -- j
     ∷ check-row sheet-g (1 ∷ 0 ∷ 255 ∷ 255 ∷ []) (C.Blocked 2)
@@ -175,14 +193,25 @@ rows =
     ∷ counts-row true sheet-f (steps (0 ∷ 1 ∷ 2 ∷ 3 ∷ [])) 12 3 0
     ∷ counts-row true sheet-d (steps (0 ∷ 1 ∷ 0 ∷ [])) 13 4 0
     ∷ counts-row true sheet-f (steps (0 ∷ 1 ∷ 2 ∷ 0 ∷ 0 ∷ [])) 13 3 1
-    -- marks. A return after the cut at 0 of row g, then one at 1: the other pairing, that of row h, and one cut. A mark set again later; a
+    -- the rule. Phase one keeps the lowest joint: three proposals, where the longest list would make two. In phase two 4 is cut, the higher of the
+    -- two longest lists, and 4 again, the highest of four; choosing it first changes nothing; a cut at 5, the highest joint of all, or at 1
+    -- ends otherwise
+    ∷ counts-row true sheet-three [] 0 3 0
+    ∷ counts-row false sheet-three [] 0 3 0
+    ∷ counts-row true sheet-three (steps (1 ∷ 2 ∷ [])) 0 2 0
+    ∷ settle-row sheet-ring [] (buffer 8) (S.Ended (E.Paired 3)) (5 ∷ 2 ∷ 1 ∷ 4 ∷ 3 ∷ 0 ∷ 9 ∷ 9 ∷ [])
+    ∷ counts-row true sheet-ring [] 0 6 2
+    ∷ settle-row sheet-ring (steps (0 ∷ 1 ∷ 2 ∷ 3 ∷ 4 ∷ 5 ∷ 4 ∷ [])) (buffer 8) (S.Ended (E.Paired 3)) (5 ∷ 2 ∷ 1 ∷ 4 ∷ 3 ∷ 0 ∷ 9 ∷ 9 ∷ [])
+    ∷ settle-row sheet-ring (steps (0 ∷ 1 ∷ 2 ∷ 3 ∷ 4 ∷ 5 ∷ 5 ∷ [])) (buffer 8) (S.Ended (E.Paired 3)) (1 ∷ 0 ∷ 3 ∷ 2 ∷ 5 ∷ 4 ∷ 9 ∷ 9 ∷ [])
+    ∷ settle-row sheet-ring (steps (0 ∷ 1 ∷ 2 ∷ 3 ∷ 4 ∷ 5 ∷ 1 ∷ 0 ∷ [])) (buffer 8) (S.Ended (E.Paired 3)) (5 ∷ 4 ∷ 3 ∷ 2 ∷ 1 ∷ 0 ∷ 9 ∷ 9 ∷ [])
+    -- marks. A return after the cut at 1 of row h, then one at 0: the other pairing, that of row h′, and one cut. A mark set again later; a
     -- mark set since, which stays set; who stood is restored with the lists
-    ∷ settle-row sheet-g (steps (0 ∷ 1 ∷ 2 ∷ 3 ∷ []) ++ mark 0 ++ step 0 ++ back 0 ++ step 1) (buffer 6) (S.Ended (E.Paired 2)) (1 ∷ 0 ∷ 3 ∷ 2 ∷ 9 ∷ 9 ∷ [])
-    ∷ counts-row true sheet-g (steps (0 ∷ 1 ∷ 2 ∷ 3 ∷ []) ++ mark 0 ++ step 0 ++ back 0 ++ step 1) 0 4 1
-    ∷ settle-row sheet-g (mark 0 ++ steps (0 ∷ 1 ∷ 2 ∷ 3 ∷ []) ++ mark 0 ++ step 0 ++ back 0 ++ step 1) (buffer 6) (S.Ended (E.Paired 2))
-    (1 ∷ 0 ∷ 3 ∷ 2 ∷ 9 ∷ 9 ∷ [])
+    ∷ settle-row sheet-g (steps (0 ∷ 1 ∷ 2 ∷ 3 ∷ []) ++ mark 0 ++ step 1 ++ back 0 ++ step 0) (buffer 6) (S.Ended (E.Paired 2)) (3 ∷ 2 ∷ 1 ∷ 0 ∷ 9 ∷ 9 ∷ [])
+    ∷ counts-row true sheet-g (steps (0 ∷ 1 ∷ 2 ∷ 3 ∷ []) ++ mark 0 ++ step 1 ++ back 0 ++ step 0) 0 4 1
+    ∷ settle-row sheet-g (mark 0 ++ steps (0 ∷ 1 ∷ 2 ∷ 3 ∷ []) ++ mark 0 ++ step 1 ++ back 0 ++ step 0) (buffer 6) (S.Ended (E.Paired 2))
+    (3 ∷ 2 ∷ 1 ∷ 0 ∷ 9 ∷ 9 ∷ [])
     ∷ counts-row true sheet-g (mark 0 ++ step 0 ++ mark 1 ++ back 0 ++ back 1 ++ step 0) 11 1 0
-    ∷ settle-row sheet-g (mark 0 ++ step 0 ++ back 0 ++ step 0) (buffer 6) (S.Ended (E.Paired 2)) (3 ∷ 2 ∷ 1 ∷ 0 ∷ 9 ∷ 9 ∷ [])
+    ∷ settle-row sheet-g (mark 0 ++ step 0 ++ back 0 ++ step 0) (buffer 6) (S.Ended (E.Paired 2)) (1 ∷ 0 ∷ 3 ∷ 2 ∷ 9 ∷ 9 ∷ [])
     -- a return from a working that has ended, with a pairing or with none, and steps after it; the counts are of the steps standing
     ∷ settle-row sheet-c (mark 7 ++ steps (0 ∷ 1 ∷ []) ++ back 7 ++ steps (1 ∷ 0 ∷ [])) (buffer 4) (S.Ended (E.Paired 1)) (1 ∷ 0 ∷ 9 ∷ 9 ∷ [])
     ∷ counts-row true sheet-c (mark 7 ++ steps (0 ∷ 1 ∷ []) ++ back 7 ++ step 9) 11 0 0

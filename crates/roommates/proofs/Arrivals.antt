@@ -7,14 +7,16 @@ use Prim.Native.Nat.{ℕ, zero, suc, _<_}
 use native.Mathlib.Omega.{arith}
 use lib.Dec.{eqb, ltb}
 use borrow.Author.Tests.{eqb-true, eqb-false, ltb-true}
+use Rattle.base.specs.Below.{anyBelow}
 use Rattle.base.proofs.Cases.{case, both-ways}
 use Rattle.base.proofs.Tests.{and-true}
+use Rattle.base.proofs.AnyBelow.{any-true, any-none}
 use Rattle.base.proofs.Lowest.{none-passes, lowest-at-most, lowest-passes}
 use Rattle.roommates.specs.declared.Stage.{Stage}
 use Rattle.roommates.specs.declared.Stage.the-variants.{Proposing, Cutting, Paired}
 use Rattle.roommates.specs.Lists.{Square}
 use Rattle.roommates.specs.PhaseOne.{Work, fresh, waits, step, lowestWaiting, someEmptied}
-use Rattle.roommates.specs.PhaseTwo.{Cut, kept, neither, cutAt, longer, lowestLonger}
+use Rattle.roommates.specs.PhaseTwo.{Cut, kept, neither, cutAt, longer, longestList}
 use Rattle.roommates.specs.Moves.{staged, inTwo, endOne, inOne, begun, Outcome, outcome, afterCut, move, ruled, moves, concluded, turns, carriedOut, worked}
 use Rattle.roommates.specs.Runs.{Run, stop, then, OneEnded, Cuts, uncut, cut-then, cutsMade, ByCuts, Arrived, in-one, none-in-one, lists-left, in-two, none-in-two, all-short}
 use Rattle.roommates.proofs.Running.{run-cuts}
@@ -61,12 +63,9 @@ module _ {whole : Bool} {n : ℕ} {t : Square} where
   unfolding inTwo
   two-arrives {w} h b =
       let test : ℕ → Bool = λ x. longer n (w .lists) x in
-      let low : ℕ = lowestLonger n (w .lists) in
-      case (both-ways (eqb low n))
-      (λ e. rw e (all-short h refl (at-stage Paired b) (none-passes n test (eqb-true low n e))))
-      (λ e.
-      let l : low < n = let d = eqb-false low n e in omega (arith, lowest-at-most n test) in
-      rw e (in-two h refl (at-stage Cutting b) low l (lowest-passes n test l)))
+      case (both-ways (anyBelow n test))
+      (λ e. let x = any-true n test e in rw e (in-two h refl (at-stage Cutting b) (x .0) (x .1) (x .2)))
+      (λ e. rw e (all-short h refl (at-stage Paired b) (any-none n test e)))
 
   -- where phase one has ended: shorten's working too, and settle's goes on to phase two
   end-arrives : {w : Work} → OneEnded n t w → Arrived whole n t (endOne whole n w)
@@ -143,7 +142,7 @@ module _ (n : ℕ) (w : Work) where
   unfolding ruled
   ruled-one e = rw e
 
-  pub ruled-two : w .stage ≡ Cutting → ruled n w ≡ lowestLonger n (w .lists)
+  pub ruled-two : w .stage ≡ Cutting → ruled n w ≡ longestList n (w .lists)
   unfolding ruled
   ruled-two e = rw e
 

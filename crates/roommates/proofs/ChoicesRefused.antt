@@ -57,7 +57,7 @@ module _ (whole : Bool) (n : ℕ) where
   unfit-move {w} {x} (ended-before h) = move-over whole n w x h
 
   -- the first choice of a list
-  moves-on : (w : Work) (x : ℕ) {v : Work} (cs : List ℕ) → move whole n w x ≡ outcome 0 v → moves whole n w (x ∷ cs) ≡ moves whole n v cs
+  pub moves-on : (w : Work) (x : ℕ) {v : Work} (cs : List ℕ) → move whole n w x ≡ outcome 0 v → moves whole n w (x ∷ cs) ≡ moves whole n v cs
   unfolding moves
   moves-on w x cs e = rw e refl
 
@@ -66,7 +66,7 @@ module _ (whole : Bool) (n : ℕ) where
   moves-stop w x {k} cs d e = rw (e, ne-eqb k 0 d) refl
 
   -- choices that were made come before the others
-  made-moves : {w v : Work} {cs : List ℕ} → Made whole n w cs v → (ds : List ℕ) → moves whole n w (cs ++ ds) ≡ moves whole n v ds
+  pub made-moves : {w v : Work} {cs : List ℕ} → Made whole n w cs v → (ds : List ℕ) → moves whole n w (cs ++ ds) ≡ moves whole n v ds
   made-moves none-made ds = refl
   made-moves (step-made {w} {v} {cs} x h l e m) ds =
       moves-on w x (cs ++ ds) (move-one whole n w x h ∙ rw (lt-ltb x n l, e) refl) ∙ made-moves m ds

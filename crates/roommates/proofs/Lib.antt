@@ -51,13 +51,15 @@ pub mod EntriesListed
 pub mod PairsWritten
 pub mod FewProposals
 pub mod CutsStrike
--- How workings end: every one is a run, its fuel lasts, and which choices it refuses.
+-- How workings end: every one is a run, its fuel lasts, which choices it refuses, and what is done where they have run out.
 pub mod FuelLasts
 pub mod Stages
+pub mod Longest
 pub mod Arrivals
 pub mod WorkingsEnd
 pub mod RuleInOne
 pub mod ChoicesRefused
+pub mod RuleSaid
 -- What the ends of the phases say, and so the demands.
 pub mod PhaseOneEnds
 pub mod EndsAgree

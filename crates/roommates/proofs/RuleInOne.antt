@@ -28,7 +28,7 @@ run-stage stop = refl
 run-stage {n} {w} (then p l e r) = run-stage r ∙ step-stage n w p
 
 module _ (whole : Bool) (n : ℕ) where
-  conclude-more : (g k m : ℕ) (w : Work) → g ≡ k + m → concluded g whole n w ≡ concluded k whole n (concluded m whole n w)
+  pub conclude-more : (g k m : ℕ) (w : Work) → g ≡ k + m → concluded g whole n w ≡ concluded k whole n (concluded m whole n w)
   unfolding concluded
   conclude-more g k zero w e = let i : g ≡ k = omega arith in ap (λ (f : ℕ). concluded f whole n w) i
   conclude-more g k (suc m) w e =
@@ -79,7 +79,7 @@ module _ (whole : Bool) (n : ℕ) where
       ))
 
 module _ {whole : Bool} {n : ℕ} {t : Square} (s : Sound n t) where
-  waiting : {w : Work} → Arrived whole n t w → w .stage ≡ Proposing → lowestWaiting n w < n
+  pub waiting : {w : Work} → Arrived whole n t w → w .stage ≡ Proposing → lowestWaiting n w < n
   waiting {w} (in-one h r p l e) g = some-passes n (λ p. waits n w p) p l e
   waiting (none-in-one v h e bad) g = absurd (one-goes-on g (inl (ap (λ u. u .stage) h)))
   waiting (lists-left k v h e ok) g = absurd (one-goes-on g (inr (inr (ap (λ u. u .stage) h))))

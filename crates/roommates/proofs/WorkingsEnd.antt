@@ -12,7 +12,7 @@ use Rattle.base.proofs.Tests.{never}
 use Rattle.base.proofs.Lowest.{lowest-passes, some-passes}
 use Rattle.roommates.specs.Lists.{Square, row, listLength}
 use Rattle.roommates.specs.PhaseOne.{Work, fresh, waits, step, lowestWaiting, someEmptied}
-use Rattle.roommates.specs.PhaseTwo.{Cut, kept, neither, cutAt, longer, lowestLonger}
+use Rattle.roommates.specs.PhaseTwo.{Cut, kept, neither, cutAt, longer, longestList}
 use Rattle.roommates.specs.Moves.{withCut, inTwo, endOne, inOne, begun, Outcome, outcome, afterCut, move, ruled, moves, concluded, turns, carriedOut, worked}
 use Rattle.roommates.specs.Runs.{Run, OneEnded, Cuts, uncut, cut-then, cutsMade, ByCuts, Arrived, in-one, none-in-one, lists-left, in-two, none-in-two, all-short}
 use Rattle.roommates.specs.Histories.{TrialsPromise}
@@ -26,6 +26,7 @@ use Rattle.roommates.proofs.EntryCounts.{entries-list, entries-bound, e
 use Rattle.roommates.proofs.FewProposals.{few-proposals}
 use Rattle.roommates.proofs.CutsStrike.{CutTo, cut-to, longer-two, cuts-shrunk}
 use Rattle.roommates.proofs.Stages.{Over}
+use Rattle.roommates.proofs.Longest.{longest-inside, longest-longer}
 use Rattle.roommates.proofs.Arrivals.{by-test, move-one, move-two, move-over, ruled-one, ruled-two, move-arrives, moves-arrive, begun-arrives}
 
 -- each cut takes two entries
@@ -126,10 +127,9 @@ module _ (whole : Bool) (n : ℕ) where
   rule-moves (none-in-one v h e bad) = inl (inl (ap (λ u. u .stage) h))
   rule-moves (lists-left wh v h e ok) = inl (inr (inr (ap (λ u. u .stage) h)))
   rule-moves {t} {w} (in-two wh h b x l e) =
-      let test : ℕ → Bool = λ x. longer n (w .lists) x in
-      let q : ℕ = lowestLonger n (w .lists) in
-      let lq : q < n = some-passes n test x l e in
-      let eq : longer n (w .lists) q ≡ true = lowest-passes n test lq in
+      let q : ℕ = longestList n (w .lists) in
+      let lq : q < n = longest-inside n (w .lists) refl n (omega arith) (omega arith) in
+      let eq : longer n (w .lists) q ≡ true = longest-longer n (w .lists) x l e in
       let c : Cut = cutAt n (w .aside) (w .lists) q in
       let m : move whole n w q ≡ outcome 0 (afterCut n w c) = move-two whole n w q h ∙ rw (lt-ltb q n lq, eq) refl in
       let more = cut-far w c in

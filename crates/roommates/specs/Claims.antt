@@ -15,7 +15,7 @@ use Rattle.matching.specs.Matchings.{partner, pairCount}
 use Rattle.blocking.specs.Blocking.{isSuperStable}
 use Rattle.roommates.specs.declared.Stage.{Stage}
 use Rattle.roommates.specs.declared.Stage.the-variants.{Proposing, Cutting, NoneOne, NoneTwo, Paired}
-use Rattle.roommates.specs.Lists.{Square}
+use Rattle.roommates.specs.Lists.{Square, row, listLength}
 use Rattle.roommates.specs.PhaseOne.{Work, fresh, waits, step, phaseOne}
 use Rattle.roommates.specs.PhaseTwo.{trialStart, cutAt, longer}
 use Rattle.roommates.specs.Moves.{inOne, begun, Outcome, afterCut, worked, settles, shortens}
@@ -135,3 +135,24 @@ pub record ChoicesRefused (whole : Bool) (n : ℕ) (t : Square) (cs : List ℕ) 
 
 abbrev pub Refusals : Type 0
 Refusals = (whole : Bool) (n : ℕ) (t : Square) (cs : List ℕ) → ChoicesRefused whole n t cs
+
+-- WHERE CHOICES HAVE RUN OUT, with no look at the rule's own definition. p waits, and nobody lower does.
+pub record LowestWaiting (n : ℕ) (w : Work) (p : ℕ) : Type 0 where
+  pub inside : p < n
+  pub waiting : waits n w p ≡ true
+  pub lower-not : (q : ℕ) → q < p → waits n w q ≡ false
+
+-- x has the longest list, and among equals the highest number
+pub record LongestList (n : ℕ) (t : Square) (x : ℕ) : Type 0 where
+  pub inside : x < n
+  pub none-longer : (y : ℕ) → y < n → listLength n (row t y) ≤ listLength n (row t x)
+  pub among-equals : (y : ℕ) → y < n → listLength n (row t y) ≡ listLength n (row t x) → y ≤ x
+
+-- The choices cs were made and left the working w. To leave off there is to choose, in phase one, the lowest joint that waits; in phase two,
+-- the joint with the longest remaining list, among equals the highest number.
+pub record LeftOff (whole : Bool) (n : ℕ) (t : Square) (cs : List ℕ) (w : Work) : Type 0 where
+  pub in-one : w .stage ≡ Proposing → (p : ℕ) × LowestWaiting n w p × (worked whole n t cs ≡ worked whole n t (cs ++ (p ∷ [])))
+  pub in-two : w .stage ≡ Cutting → (x : ℕ) × LongestList n (w .lists) x × (worked whole n t cs ≡ worked whole n t (cs ++ (x ∷ [])))
+
+abbrev pub RuleSaid : Type 0
+RuleSaid = (whole : Bool) (n : ℕ) (t : Square) → SquarePromise n t → (cs : List ℕ) (w : Work) → Made whole n (begun whole n t) cs w → LeftOff whole n t cs w

@@ -3,11 +3,12 @@ use mathlib.Core.Bool.{Bool, true, false, _&&_, cond}
 use mathlib.Core.List.{List, [], _∷_}
 use Prim.Native.Nat.{ℕ, zero, suc, _+_, _*_}
 use lib.Dec.{eqb, ltb}
+use Rattle.base.specs.Below.{anyBelow}
 use Rattle.roommates.specs.declared.Stage.{Stage}
 use Rattle.roommates.specs.declared.Stage.the-variants.{Proposing, Cutting, NoneOne, NoneTwo, Paired}
 use Rattle.roommates.specs.Lists.{Square}
 use Rattle.roommates.specs.PhaseOne.{Work, work, fresh, waits, step, lowestWaiting, someEmptied}
-use Rattle.roommates.specs.PhaseTwo.{Cut, kept, neither, asideOf, cutAt, longer, lowestLonger}
+use Rattle.roommates.specs.PhaseTwo.{Cut, kept, neither, asideOf, cutAt, longer, longestList}
 
 -- the working at another stage, with joints set aside, after one more cut that left the lists t
 abbrev pub staged : Stage → Work → Work
@@ -21,7 +22,7 @@ withCut t w = work (w .stage) t (w .reach) (w .received) (w .aside) (w .proposal
 
 -- PHASE TWO runs while some list is longer than one.
 unfoldable pub inTwo : ℕ → Work → Work
-inTwo n w = staged (cond (eqb (lowestLonger n (w .lists)) n) Paired Cutting) w
+inTwo n w = staged (cond (anyBelow n (λ x. longer n (w .lists) x)) Cutting Paired) w
 
 -- PHASE ONE ends when nobody waits. A joint that ever received a proposal and has an empty list then gives none. Joints empty without
 -- one are set aside, and phase two begins; but shorten's working (not `whole`) ends here.
@@ -62,10 +63,11 @@ moveIn Paired whole n w x = outcome 13 w
 unfoldable pub move : Bool → ℕ → Work → ℕ → Outcome
 move whole n w x = moveIn (w .stage) whole n w x
 
--- ONE RULE names the joint where choices have run out: the lowest allowed. An ended working has none.
+-- ONE RULE names the joint where choices have run out: in phase one the lowest that waits, in phase two the one with the longest list. An
+-- ended working has none.
 abbrev pub ruledIn : Stage → ℕ → Work → ℕ
 ruledIn Proposing n w = lowestWaiting n w
-ruledIn Cutting n w = lowestLonger n (w .lists)
+ruledIn Cutting n w = longestList n (w .lists)
 ruledIn NoneOne n w = n
 ruledIn NoneTwo n w = n
 ruledIn Paired n w = n

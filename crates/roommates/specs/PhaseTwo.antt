@@ -5,7 +5,7 @@ use Prim.Native.Nat.{ℕ, zero, suc}
 use lib.Dec.{eqb, leb}
 use lib.ListN.{getD, set}
 use Rattle.roommates.specs.Lists.{Square, row, listLength, worstBand, firstOn, strikeBand}
-use Rattle.base.specs.Below.{allBelow, lowest}
+use Rattle.base.specs.Below.{allBelow, argmax}
 use Rattle.roommates.specs.PhaseOne.{nobody, fresh, phaseOne}
 
 -- a trial: v's pairs with v's worst band are struck, then phase one runs afresh, with no choices
@@ -42,9 +42,10 @@ cutAt n aside t x =
     let other = cond (noneEmptied n aside second) (kept second) neither in
     cond (noneEmptied n aside first) (kept first) other
 
--- a list longer than one, and the lowest joint with such a list; n where nobody has one
+-- x's list is longer than one
 abbrev pub longer : ℕ → Square → ℕ → Bool
 longer n t x = leb 2 (listLength n (row t x))
 
-abbrev pub lowestLonger : ℕ → Square → ℕ
-lowestLonger n t = lowest n (λ x. longer n t x)
+-- the joint with the longest list, and among equals the highest
+unfoldable pub longestList : ℕ → Square → ℕ
+longestList n t = argmax n (λ x. listLength n (row t x))

@@ -36,6 +36,20 @@ pub fn rows(table: u64, least: u32) -> u64 {
     set
 }
 
+// The joints whose rows have the most flags: level by level, as long as some row has so many.
+pub fn fullest(table: u64) -> u64 {
+    let mut set = 255;
+    let mut least: u32 = 1;
+    while least < 8 {
+        let more = rows(table, least);
+        if more != 0 {
+            set = more;
+        }
+        least += 1;
+    }
+    set
+}
+
 // The flags of a with the joints of a set, both ways.
 pub fn pairs(a: usize, set: u64) -> u64 {
     let mut table = 0;
@@ -53,4 +67,11 @@ pub fn lowest(set: u64) -> usize
     ensures { λ r. ⌜ r < 8 ⌝ }
 {
     (u64::trailing_zeros(set) % 8) as usize
+}
+
+// The highest.
+pub fn highest(set: u64) -> usize
+    ensures { λ r. ⌜ r < 8 ⌝ }
+{
+    (7 - u64::leading_zeros(set) % 8) as usize
 }

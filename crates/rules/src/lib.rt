@@ -2,7 +2,9 @@
 mod flags;
 mod phases;
 
+use flags::fullest;
 use flags::has;
+use flags::highest;
 use flags::lowest;
 use flags::row;
 use flags::rows;
@@ -152,16 +154,24 @@ pub fn chosen(w: Work, c: u8) -> Work {
     next
 }
 
-// Where choices have run out, the lowest joint allowed is taken every time. There are at most 56 steps and 28 cuts.
+// When choices run out in phase two, the joint with the longest remaining list is cut, and among equals the highest number. In phase one
+// the lowest joint that waits proposes.
+fn ruled(w: Work) -> usize {
+    if w.stage == PHASE_TWO {
+        return highest(fullest(w.listed));
+    }
+    lowest(waiting(w))
+}
+
+// Where choices have run out, the joint that the rule names is taken every time. There are at most 56 steps and 28 cuts.
 pub fn ended(w: Work) -> Work {
     let mut next = w;
     let mut i: u32 = 0;
     while i < 84 {
-        let joints = allowed(next);
-        if joints == 0 {
+        if allowed(next) == 0 {
             return next;
         }
-        next = moved(next, lowest(joints));
+        next = moved(next, ruled(next));
         i += 1;
     }
     next

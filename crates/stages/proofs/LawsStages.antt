@@ -2,14 +2,15 @@
 use mathlib.Core.Path.{_≡_, sym, _∙_, ap}
 use mathlib.Core.Bool.{Bool, true, false}
 use mathlib.Core.List.{List}
-use Prim.Native.Nat.{ℕ}
+use Prim.Native.Nat.{ℕ, _≤_, _<_}
 use borrow.Author.Tests.{eq-eqb, ne-eqb}
 use Rattle.roommates.specs.declared.Stage.{Stage}
 use Rattle.roommates.specs.declared.Stage.the-variants.{Proposing, Cutting, NoneOne, Paired}
-use Rattle.roommates.specs.Lists.{Square}
+use Rattle.roommates.specs.Lists.{Square, row, listLength}
 use Rattle.roommates.specs.PhaseOne.{Work, work, phaseOne, lowestWaiting, someEmptied}
-use Rattle.roommates.specs.PhaseTwo.{asideOf, lowestLonger}
+use Rattle.roommates.specs.PhaseTwo.{asideOf, longestList}
 use Rattle.roommates.specs.Moves.{outcome, staged, withAside, inTwo, endOne, inOne, ruled}
+use Rattle.roommates.proofs.Longest.{some-longer, none-longer}
 use Rattle.stages.specs.declared.Place.{Place}
 use Rattle.stages.specs.Places.{workAt, outcomeAt, Ruled, Stands}
 
@@ -25,14 +26,14 @@ module _ (n : ℕ) (t : Square) {r : Place} where
   stands : {v w : Work} → v ≡ w → outcomeAt t r ≡ outcome 0 v → r .next ≡ ruled n v → Stands n t r w
   stands e is names = stands-as e (is, ruled-as n t is names)
 
-  module _ (w : Work) {low : ℕ} (is-low : low ≡ lowestLonger n (w .lists)) where
-    pub two-ends : low ≡ n → outcomeAt t r ≡ outcome 0 (staged Paired w) → r .next ≡ n → Stands n t r (inTwo n w)
+  module _ (w : Work) {x k : ℕ} (longest : x ≡ longestList n (w .lists)) (long : k ≡ listLength n (row (w .lists) x)) where
+    pub two-ends : k < 2 → outcomeAt t r ≡ outcome 0 (staged Paired w) → r .next ≡ n → Stands n t r (inTwo n w)
     unfolding inTwo ruled
-    two-ends h is names = stands (rw (← is-low, eq-eqb _ _ h)) is names
+    two-ends h is names = stands (rw (none-longer n (w .lists) longest long h)) is names
 
-    pub two-goes-on : (low ≡ n → ⊥) → outcomeAt t r ≡ outcome 0 (staged Cutting w) → r .next ≡ low → Stands n t r (inTwo n w)
+    pub two-goes-on : 2 ≤ k → outcomeAt t r ≡ outcome 0 (staged Cutting w) → r .next ≡ x → Stands n t r (inTwo n w)
     unfolding inTwo ruled
-    two-goes-on h is names = stands (rw (← is-low, ne-eqb _ _ h)) is (names ∙ is-low)
+    two-goes-on h is names = stands (rw (some-longer n (w .lists) longest long h)) is (names ∙ longest)
 
   module _ (whole : Bool) (w : Work) where
     pub one-none : someEmptied n w ≡ true → outcomeAt t r ≡ outcome 0 (staged NoneOne w) → r .next ≡ n → Stands n t r (endOne whole n w)

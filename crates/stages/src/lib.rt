@@ -1,7 +1,8 @@
 // Where a working stands, in code: its stage after a step or a cut, and the joint that the rule names. For the crates above, which prove
 // what they require.
 use cuts::set_aside;
-use lists::strikes::lowest_longer;
+use lists::rows::list_length;
+use lists::strikes::longest_list;
 use lists::strikes::lowest_waiting;
 use proposals::run_on;
 use proposals::some_emptied;
@@ -75,16 +76,16 @@ fn with_aside(aside: [u8; 128], place: Place) -> Place
     }
 }
 
-// Phase two runs while some list is longer than one.
+// Phase two runs while some list is longer than one: so while the longest is.
 pub fn in_two(n: usize, lists: &[[u8; 128]; 128], place: Place) -> Place
     requires { ⌜ n ≤ 128 ⌝ }
     ensures { λ r. ⌜ Stands n (now (lists .entry)) r (inTwo n (workAt (now (lists .entry)) place)) ⌝ }
 {
-    let low = lowest_longer(n, lists);
-    if low == n {
+    let longest = longest_list(n, lists);
+    if list_length(n, &lists[longest]) < 2 {
         return at_stage(Stage::Paired, n, place);
     }
-    at_stage(Stage::Cutting, low, place)
+    at_stage(Stage::Cutting, longest, place)
 }
 
 // Phase one ends: none, shorten's lists, or phase two with joints set aside.
