@@ -21,12 +21,12 @@ use Rattle.listing.specs.Sheets.{listsText, sheetText}
 use Rattle.listing.specs.Claims.{PrintedExample, PhaseOnePrinted, ThirteenPrinted}
 
 pub printed-example : PrintedExample
-unfolding anyBelow allBelow countBelow lowestFrom joined firstFault faultBelow visibleRun allZero labelOk sameBytes
-    repeats labelBad labelsFault entryIn entriesFrom bandIn entryFault only sheetFaults sheetFault placed
-    pairedJoints aloneCount bestBand worstBand firstOn strikeIf listWaits proposed proposeAll receiveAll step
-    runOut someEmptied trial asideBelow noneEmptied cutAt inTwo endOne inOne move ruled concluded recordsOf
-    follows workedBy partnerOn pairingOf longestList argmax listsText sheetText pairingText numberLine decimal
-    pairPart alonePart pairLine labelLine labelText
+unfolding anyBelow allBelow countBelow lowestFrom argmax joined firstFault faultBelow visibleRun allZero labelOk
+    sameBytes repeats labelBad labelsFault entryIn entriesFrom bandIn entryFault only sheetFaults sheetFault
+    placed pairedJoints aloneCount bestBand worstBand firstOn strikeIf listWaits proposed proposeAll receiveAll
+    step runOut someEmptied trial asideBelow noneEmptied cutAt longestList inTwo endOne inOne move ruled concluded
+    recordsOf follows workedBy partnerOn pairingOf listsText sheetText pairingText numberLine decimal pairPart
+    alonePart pairLine labelLine labelText
 printed-example = refl
 
 pub phase-one-printed : PhaseOnePrinted

@@ -1,14 +1,13 @@
 -- Where choices have run out: to leave off is to choose the joint that the rule names.
 use mathlib.Core.Path.{_≡_, refl, sym, _∙_, ap, subst}
-use mathlib.Core.Bool.{Bool, true}
+use mathlib.Core.Bool.{Bool}
 use mathlib.Core.Logic.{inl, inr}
 use mathlib.Core.List.{List, [], _∷_, _++_, append-nil}
-use Prim.Native.Nat.{ℕ, suc, _≤_, _<_}
+use Prim.Native.Nat.{ℕ, suc, _<_}
 use native.Mathlib.Omega.{arith}
 use Rattle.base.proofs.Cases.{case, lt-ge}
 use Rattle.base.proofs.Argmax.{Greatest}
 use Rattle.base.proofs.Lowest.{lowest-passes, lower-fails}
-use Rattle.sheet.specs.Square.{SquarePromise}
 use Rattle.roommates.specs.declared.Stage.the-variants.{Proposing, Cutting}
 use Rattle.roommates.specs.Lists.{Square}
 use Rattle.roommates.specs.PhaseOne.{Work, waits, lowestWaiting}
