@@ -39,9 +39,9 @@
  *     static const uint8_t choices[] = {
  *         0, 0,  0, 1,  0, 2,  0, 3,    the steps of the first phase
  *         1, 0,                         mark 0
- *         0, 0,                         a cut at joint 0
+ *         0, 1,                         a cut at joint 1
  *         2, 0,                         back to mark 0
- *         0, 1                          a cut at joint 1
+ *         0, 0                          a cut at joint 0
  *     };
  *     answer = mirror_settle(sheet, size, choices, sizeof choices, partner, sizeof partner);
  *

@@ -2,11 +2,11 @@
 // what they require.
 use cuts::set_aside;
 use lists::rows::list_length;
-use lists::strikes::longest_list;
-use lists::strikes::lowest_waiting;
 use proposals::run_on;
 use proposals::some_emptied;
 use roommates::Stage;
+use ruling::longest_list;
+use ruling::lowest_waiting;
 ghost use mathlib.Core.Path.{_≡_};
 ghost use Prim.Native.Nat.{_≤_};
 ghost use Rattle.roommates.specs.declared.Stage.the-variants.{Proposing};

@@ -7,8 +7,8 @@ use Rattle.base.specs.Below.{argmax}
 use Rattle.base.proofs.Argmax.{argmax-starts, argmax-next, argmax-same, argmax-ends}
 use Rattle.roommates.specs.Lists.{Square, row, listLength}
 use Rattle.roommates.specs.PhaseTwo.{longestList}
-use Rattle.lists.proofs.strikes.longest_list.Statement.{statement}
-use Rattle.lists.proofs.strikes.longest_list.Tie as tie
+use Rattle.ruling.proofs.longest_list.Statement.{statement}
+use Rattle.ruling.proofs.longest_list.Tie as tie
 
 abbrev lengths : ℕ → Square → ℕ → ℕ
 lengths n t x = listLength n (row t x)

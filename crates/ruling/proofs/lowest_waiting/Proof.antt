@@ -8,8 +8,8 @@ use Rattle.base.specs.Below.{lowest, lowestFrom}
 use Rattle.base.proofs.Lowest.{lowest-hit, lowest-miss, lowest-none}
 use lib.ListN.{getD}
 use Rattle.roommates.specs.PhaseOne.{listWaits}
-use Rattle.lists.proofs.strikes.lowest_waiting.Statement.{statement}
-use Rattle.lists.proofs.strikes.lowest_waiting.Tie as tie
+use Rattle.ruling.proofs.lowest_waiting.Statement.{statement}
+use Rattle.ruling.proofs.lowest_waiting.Tie as tie
 
 abbrev Inv-loop : tie.InvT-loop
 Inv-loop n bands reach p₀ p = (p ≤ n) × (lowestFrom (n - p) p (λ p. listWaits n (getD reach p 0) (row bands p)) ≡ lowest n (λ p. listWaits n (getD reach p 0) (row bands p)))
