@@ -1,4 +1,4 @@
-// The two phases for up to 8 joints, sentence by sentence from document 01, for the test programs.
+// The two phases for up to 8 joints, sentence by sentence from documents 01 and 02, for the test programs.
 mod flags;
 mod phases;
 
