@@ -1,5 +1,6 @@
 /* The rules of document 01 written straight down in C: reading a sheet, phase one, phase two; and records with marks and
- * the rule where they run out, as document 02 has them. It shares nothing with the library and is what the library's times are held against. */
+ * the rule where they run out, as document 02 has them. It shares nothing with the library and is what the library's
+ * times are held against. */
 #include "plain.h"
 
 #include <stdbool.h>

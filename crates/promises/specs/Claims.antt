@@ -151,7 +151,7 @@ abbrev pub CallsReplayed : Type 0
 CallsReplayed = (s cs : List ℕ) → CallReplayed s cs
 
 -- WHERE CHOICES HAVE RUN OUT in phase two. The steps cs were made and left the working w: to leave off there is to choose the joint x with
--- the longest remaining list, and among equals the highest number.
+-- the longest remaining list, and among equals the highest number. Other records get what the steps standing after them get (CallsReplayed).
 pub record LeftOffAlike (s cs : List ℕ) (w : Work) (x : ℕ) : Type 0 where
   pub longest : LongestList (joints s) (w .lists) x
   pub settle-alike : (out : List ℕ) → (settleAnswer s (stepBytes cs) out ≡ settleAnswer s (stepBytes (cs ++ (x ∷ []))) out)
