@@ -10,3 +10,4 @@ pub mod Argmax
 pub mod Joined
 pub mod Faults
 pub mod Places
+pub mod Tables

@@ -1,9 +1,10 @@
--- The counts in the calls' answers are small, so that their numbers for C do not overflow.
+-- The counts and sums in the calls' answers are small, so that their numbers for C do not overflow.
 use mathlib.Core.Path.{_≡_}
 use mathlib.Core.Bool.{Bool}
 use mathlib.Core.List.{List}
-use Prim.Native.Nat.{ℕ, _<_}
+use Prim.Native.Nat.{ℕ, _*_, _≤_, _<_}
 use native.Mathlib.Omega.{arith}
+use lib.ListN.{getD}
 use Rattle.sheet.proofs.PromiseKept.{accepted-square}
 use Rattle.matching.proofs.PairNumbers.{pair-number-small}
 use Rattle.blocking.specs.declared.Checked.the-variants as K
@@ -14,6 +15,9 @@ use Rattle.calls.specs.Checks.{checkOf}
 use Rattle.calls.specs.Calls.{settleAnswer, shortenAnswer, countsOf}
 use Rattle.promises.proofs.CallsKeep.{calls-keep}
 use Rattle.promises.proofs.CheckKeeps.{check-keeps}
+use Rattle.quote.specs.declared.Quoted.the-variants as Q
+use Rattle.quote.specs.Quotes.{quoteAnswer}
+use Rattle.quote.proofs.QuotesKept.{quotes-kept}
 
 pub settle-count-small : (s cs out : List ℕ) (k : ℕ) → settleAnswer s cs out ≡ S.Ended (E.Paired k) → k < 65536
 settle-count-small s cs out k e = omega (arith, calls-keep s .settle-paired cs out k e .at-most)
@@ -32,3 +36,7 @@ check-pair-small s m k e =
 
 pub proposals-small : (whole : Bool) (s cs : List ℕ) → countsOf whole s cs .proposals < 65536
 proposals-small whole s cs = omega (arith, calls-keep s .counts-small whole cs .0)
+
+-- for a tariff of bytes
+pub sum-small : (s cs t : List ℕ) (rebate k : ℕ) → ((i : ℕ) → getD t i 0 < 256) → quoteAnswer s cs t rebate ≡ Q.Payable k → k ≤ 64 * 4294967295
+sum-small s cs t rebate k bytes e = quotes-kept s t rebate .sum cs k e .small bytes

@@ -9,12 +9,14 @@ use Rattle.calls.specs.declared.Settled.the-variants as S
 use Rattle.calls.specs.declared.Shortened.{Shortened}
 use Rattle.calls.specs.declared.Shortened.the-variants as L
 use Rattle.calls.specs.declared.Counts.{Counts}
+use Rattle.quote.specs.declared.Quoted.{Quoted}
+use Rattle.quote.specs.declared.Quoted.the-variants as Q
 
 -- The version of the interface: raised by each landing that changes the meaning or the signature of a call.
 abbrev pub version : ℕ
 version = 4
 
--- a refusal's number, a verdict and a count in 32 bits
+-- a refusal's number, a verdict, and a count or a sum
 abbrev pub packed : ℕ → ℕ → ℕ → ℕ
 packed number verdict count = number + 256 * verdict + 65536 * count
 
@@ -38,3 +40,10 @@ checkedCode (K.Blocked pair) = packed 0 0 pair
 
 abbrev pub countsCode : Counts → ℕ
 countsCode c = c .number + 65536 * c .proposals + 2 ^ 32 * c .cuts
+
+-- Verdict 3 is a sum; none has no sum.
+abbrev pub quotedCode : Quoted → ℕ
+quotedCode (Q.Refused k) = packed k 0 0
+quotedCode (Q.None P.One) = packed 0 1 0
+quotedCode (Q.None P.Two) = packed 0 2 0
+quotedCode (Q.Payable sum) = packed 0 3 sum

@@ -4,7 +4,7 @@ use Prim.Native.Nat.{ℕ, _/_, _%_, _<_}
 use Rattle.calls.specs.declared.Counts.{Counts}
 use Rattle.pairing.specs.CCodes.{packed, countsCode}
 
--- MIRROR_REFUSAL; MIRROR_VERDICT and MIRROR_HOLDS; MIRROR_COUNT and MIRROR_PAIR
+-- MIRROR_REFUSAL; MIRROR_VERDICT and MIRROR_HOLDS; MIRROR_COUNT, MIRROR_PAIR and MIRROR_SUM
 abbrev pub PartsReadBack : Type 0
 PartsReadBack = (number verdict count : ℕ) → number < 256 → verdict < 256
     → (packed number verdict count % 256 ≡ number)

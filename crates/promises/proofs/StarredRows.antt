@@ -4,6 +4,7 @@ use mathlib.Core.List.{[], _∷_, _++_}
 use lib.ListN.{replicate}
 use Rattle.base.specs.Below.{anyBelow, allBelow, countBelow, sumBelow, lowestFrom, argmax, joined}
 use Rattle.base.specs.Faults.{firstFault, faultBelow}
+use Rattle.base.proofs.Tables.{_&_}
 use Rattle.sections.specs.Labels.{visibleRun, allZero, labelOk, sameBytes, repeats, labelBad, labelsFault}
 use Rattle.sections.specs.Entries.{entryIn, entriesFrom, bandIn, entryFault}
 use Rattle.square.specs.Mutual.{only}
@@ -27,11 +28,6 @@ pub sheet-g-bytes : sheet-g
     ++ (8 ∷ 0 ∷ 0 ∷ 1 ∷ 1 ∷ 0 ∷ 3 ∷ 2 ∷ 1 ∷ 0 ∷ 2 ∷ 1 ∷ 2 ∷ 1 ∷ 2 ∷ 1 ∷ 2 ∷ 2 ∷ 3 ∷ 1 ∷ 3 ∷ 0 ∷ 1 ∷ 3 ∷ 2 ∷ 2 ∷ [])
 unfolding isIn bandFrom entriesOnward sheetOf joined
 sheet-g-bytes = refl
-
--- a row, and the rows after it
-infixr 30 _&_
-_&_ : {A B : Type 0} → A → B → A × B
-a & b = (a, b)
 
 pub starred : AllHold rows
 unfolding isIn bandFrom entriesOnward sheetOf anyBelow allBelow countBelow sumBelow lowestFrom argmax joined firstFault

@@ -1,10 +1,9 @@
 -- Laws of a whole sheet's reading, one for each way that the reader takes.
 use mathlib.Core.Path.{_≡_, refl, sym, _∙_}
 use mathlib.Core.List.{List}
-use Prim.Native.Nat.{ℕ, zero, suc, _-_, _≤_, _<_}
+use Prim.Native.Nat.{ℕ, zero, suc, _≤_, _<_}
 use native.Mathlib.Omega.{arith}
-use lib.ListN.{length, take, drop, length-drop}
-use lib.Seq.{take-all}
+use lib.ListN.{length, take, drop}
 use borrow.Author.Tests.{eq-eqb, ne-eqb, lt-ltb, le-ltb}
 use Rattle.base.specs.Faults.{firstFault}
 use Rattle.base.proofs.Faults.{fault-stops}
@@ -17,10 +16,6 @@ use Rattle.sheet.specs.Square.{squareOf}
 use Rattle.sheet.specs.Readings.{partsOf, readingOr, readingOf, squareIn}
 use Rattle.sheet.proofs.FaultLists.{in-first-part, in-second-part}
 use Rattle.sheet.proofs.ReadAs.{square-filled, square-kept}
-
--- the rest of a slice from k on, as the code hands it over
-pub rest-is : (k : ℕ) (s : List ℕ) → take (length s - k) (drop k s) ≡ drop k s
-rest-is k s = take-all (length s - k) (drop k s) (simp length-drop (omega arith))
 
 -- a fault that is not 0 is refused with its number
 pub refused-as : (s : List ℕ) (f k : ℕ) → f ≡ k → (k ≡ 0 → ⊥) → Refused k ≡ readingOr s f

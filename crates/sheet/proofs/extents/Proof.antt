@@ -9,7 +9,8 @@ use Rattle.sections.specs.Labels.{labelWidth, labelsFault}
 use Rattle.sections.specs.Readings.{labelsReading}
 use Rattle.sections.proofs.SectionLaws.{section-read, section-refused}
 use Rattle.sheet.specs.Format.{joints, labelsPart, rankCount, rankStart}
-use Rattle.sheet.proofs.SheetLaws.{rest-is, refused-as, accepted-as, no-joints, many-joints, bad-labels, no-count, cut-short, too-long, all-there}
+use Rattle.base.proofs.Places.{rest-is}
+use Rattle.sheet.proofs.SheetLaws.{refused-as, accepted-as, no-joints, many-joints, bad-labels, no-count, cut-short, too-long, all-there}
 use borrow.Author.Needs.{needs}
 use Rattle.sheet.proofs.extents.Statement.{statement}
 use Rattle.sheet.proofs.extents.Tie as tie

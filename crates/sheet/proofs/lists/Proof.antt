@@ -17,7 +17,8 @@ use Rattle.sheet.specs.Refusals.{extentsFault}
 use Rattle.sheet.specs.Square.{squareOf}
 use Rattle.sheet.proofs.Accepted.{Extents, extents-known, part-exact, count-small}
 use Rattle.sheet.proofs.ReadAs.{ReadWith, read-with, refused-with}
-use Rattle.sheet.proofs.SheetLaws.{rest-is, bad-extents, bad-entries, faultless, refused, all-read}
+use Rattle.base.proofs.Places.{rest-is}
+use Rattle.sheet.proofs.SheetLaws.{bad-extents, bad-entries, faultless, refused, all-read}
 use borrow.Author.Needs.{needs}
 use Rattle.sheet.proofs.lists.Statement.{statement}
 use Rattle.sheet.proofs.lists.Tie as tie

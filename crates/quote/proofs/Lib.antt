@@ -1,0 +1,6 @@
+-- Laws of the answer, and what a caller may conclude.
+pub mod QuoteLaws
+pub mod QuoteRefuses
+pub mod QuotesKept
+-- the worked examples, by computation
+pub mod WorkedRows
