@@ -10,7 +10,7 @@
  *   - each pointer points to as many bytes as the size after it says (NULL will do where the size is 0);
  *   - `out` shares no byte with `sheet` or `choices`, and nothing writes to any of them during the call;
  *   - 384 KiB of stack are free, whatever the sheet and the choices (64 KiB for mirror_check); measured, a call uses up to
- *     285,208 bytes (mirror_check 32,904). A main thread has far more; a thread that is started with a small stack may not.
+ *     285,384 bytes (mirror_check 32,904). A main thread has far more; a thread that is started with a small stack may not.
  *
  * The library is for x86-64 Linux and calls memcpy and memset of the C library, nothing else.
  *
@@ -45,6 +45,14 @@
  *     };
  *     answer = mirror_settle(sheet, size, choices, sizeof choices, partner, sizeof partner);
  *
+ * THE TARIFF of mirror_quote, in bytes, with nothing after it:
+ *   1 byte     the number of steps, 1 to 16
+ *   5 x that   the steps: the first pair that the step covers (one byte), then the price in cents of each such pair (four bytes,
+ *              low byte first). The first step covers from pair 1, later ones ascend. A pair costs what the last step that begins
+ *              at or before it says; a step may begin beyond the last pair there is. So 500 from pair 1 and 300 from pair 4 is
+ *                  static const uint8_t tariff[] = { 2,  1, 244, 1, 0, 0,  4, 44, 1, 0, 0 };
+ *              and five pairs cost 3 x 500 + 2 x 300 = 2,100 cents.
+ *
  * REFUSALS: the lowest byte of every return is 0, or the number of the first thing wrong, looked for in this order:
  *    1  the sheet ends before n (it is empty)
  *    2  n is above 128
@@ -59,6 +67,8 @@
  *    9  `out` is too short
  *   10  the offered pairing is not one: not n bytes, a byte that is neither 255 nor a joint, two joints that do not name
  *       each other, or a pair of joints that do not list each other
+ *   16  the tariff breaks its form
+ *   17  the rebate is above 10,000
  *   14  an odd number of choice bytes
  *       record by record, for the first that is refused:
  *   14    a kind above 2
@@ -81,19 +91,22 @@
 extern "C" {
 #endif
 
-/* The most joints, and the sizes in bytes that serve for every sheet: no longer sheet is accepted, and `out` need be no
- * longer for mirror_settle and mirror_shorten. A program that reads a sheet into a buffer of MIRROR_SHEET_BYTES takes one byte
- * more, or it will not see that bytes follow a largest sheet (refusal 8). */
+/* The most joints, and the sizes in bytes that serve for every sheet: no longer sheet and no longer tariff is accepted, and
+ * `out` need be no longer for mirror_settle and mirror_shorten. A program that reads a sheet into a buffer of
+ * MIRROR_SHEET_BYTES takes one byte more, or it will not see that bytes follow a largest sheet (refusal 8), and so for a tariff
+ * (refusal 16). */
 #define MIRROR_JOINTS 128
 #define MIRROR_SHEET_BYTES (1 + 16 * 128 + 2 + 3 * 128 * 127)
 #define MIRROR_PAIRING_BYTES 128
 #define MIRROR_LISTS_BYTES (2 + 3 * 128 * 127)
+#define MIRROR_TARIFF_BYTES (1 + 5 * 16)
 
 /* The partner byte of an unpaired joint. */
 #define MIRROR_ALONE 255
 
 /* The parts of what the calls return. MIRROR_REFUSAL is for every call; MIRROR_VERDICT and MIRROR_COUNT for mirror_settle
- * and mirror_shorten; MIRROR_HOLDS and MIRROR_PAIR for mirror_check; MIRROR_PROPOSALS and MIRROR_CUTS for mirror_counts. */
+ * and mirror_shorten; MIRROR_HOLDS and MIRROR_PAIR for mirror_check; MIRROR_PROPOSALS and MIRROR_CUTS for mirror_counts;
+ * MIRROR_VERDICT and MIRROR_SUM for mirror_quote. */
 #define MIRROR_REFUSAL(r) ((unsigned)((r) & 255))
 #define MIRROR_VERDICT(r) ((unsigned)((r) >> 8 & 255))
 #define MIRROR_COUNT(r) ((unsigned)((r) >> 16))
@@ -101,8 +114,9 @@ extern "C" {
 #define MIRROR_PAIR(r) ((unsigned)((r) >> 16))
 #define MIRROR_PROPOSALS(r) ((unsigned)((r) >> 16 & 65535))
 #define MIRROR_CUTS(r) ((unsigned)((r) >> 32))
+#define MIRROR_SUM(r) ((uint64_t)(r) >> 16)
 
-/* Verdicts of mirror_settle and mirror_shorten; 0 with a refusal. */
+/* Verdicts of mirror_settle, mirror_shorten and mirror_quote; 0 with a refusal. */
 #define MIRROR_NONE_PHASE_ONE 1
 #define MIRROR_NONE_PHASE_TWO 2
 #define MIRROR_DONE 3
@@ -123,7 +137,9 @@ enum mirror_refusal {
     MIRROR_CHOICE_HAS_NO_LIST = 12,
     MIRROR_CHOICE_LEFT_OVER = 13,
     MIRROR_BAD_RECORD = 14,
-    MIRROR_NO_SUCH_MARK = 15
+    MIRROR_NO_SUCH_MARK = 15,
+    MIRROR_BAD_TARIFF = 16,
+    MIRROR_REBATE_TOO_HIGH = 17
 };
 
 /*
@@ -190,6 +206,26 @@ uint32_t mirror_check(const uint8_t *sheet, size_t sheet_size,
 uint64_t mirror_counts(const uint8_t *sheet, size_t sheet_size,
                        const uint8_t *choices, size_t choices_size,
                        bool whole);
+
+/*
+ * Quotes: what the pairing that mirror_settle finds with the same sheet and choices costs by a tariff, less a rebate in
+ * hundredths of a percent, 0 to 10,000, off the total.
+ *
+ * Returns refusal + 256 x verdict + 65,536 x sum:
+ *   verdict 3  a pairing; `sum` is payable, in cents, rounded down: total x (10,000 - rebate) / 10,000. No pairs cost 0.
+ *   verdict 1  the sheet has no super-stable pairing, which the first phase showed; there is no sum.
+ *   verdict 2  the same, shown by the second phase.
+ *   verdict 0  refused (1 to 6, 8, 11 to 17).
+ * Where nothing is refused the choices change nothing: the sum belongs to the sheet, the tariff and the rebate. One more pair
+ * never lowers it, a higher rebate never raises it, and it is never above the total; it is below 2^38 for every tariff.
+ *     answer = mirror_quote(sheet, size, NULL, 0, tariff, sizeof tariff, 250);
+ *     if (MIRROR_REFUSAL(answer) == MIRROR_ACCEPTED && MIRROR_VERDICT(answer) == MIRROR_DONE)
+ *         cents = MIRROR_SUM(answer);
+ */
+uint64_t mirror_quote(const uint8_t *sheet, size_t sheet_size,
+                      const uint8_t *choices, size_t choices_size,
+                      const uint8_t *tariff, size_t tariff_size,
+                      uint32_t rebate);
 
 #ifdef __cplusplus
 }

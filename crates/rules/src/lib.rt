@@ -67,6 +67,12 @@ pub fn allowed(w: Work) -> u64 {
     }
 }
 
+// A joint of a set: the first from x on, in a ring.
+pub fn any_of(set: u64, x: u32) -> u8 {
+    let from = x % 8;
+    ((u64::trailing_zeros((set | (set << 8)) >> from) % 8 + from) % 8) as u8
+}
+
 // A phase ends when nobody is allowed. A joint that ever received a proposal and has an empty list then gives none in phase one. Joints
 // empty without one are set aside, and with them those that the sheet has not. Shorten ends with phase one.
 fn closed(w: Work) -> Work {

@@ -180,6 +180,31 @@ pub fn drawn_sheet(n: usize, seed: u32, style: Style) -> Sheet
     sheet_of(n, bands_of(n, seed, style))
 }
 
+// From many ties to few, from lists that lean nowhere to lists that lean to the next joint.
+const WIDTHS: [u32; 4] = [2, 5, 11, 59];
+
+const TURNS: [u32; 4] = [0, 2, 4, 8];
+
+// 0 to 8 joints, then 2 to 8.
+fn joints(round: u32) -> usize
+    ensures { λ r. ⌜ r ≤ 8 ⌝ }
+{
+    let k = (round % 16) as usize;
+    if k < 9 { k } else { k - 7 }
+}
+
+// The sheet of a round, which settles its number of joints and its style.
+pub fn varied_sheet(round: u32, seed: u32) -> Sheet {
+    let k = (round / 48 % 4) as usize;
+    let style = Style {
+        skip: round / 16 % 3,
+        lone: if round / 192 % 2 == 0 { 2 } else { 0 },
+        width: WIDTHS[k],
+        turn: TURNS[k],
+    };
+    drawn_sheet(joints(round), seed, style)
+}
+
 // Is there a band at place k, and none for its return?
 fn lacks_return(bands: &[u8; 64], k: usize) -> bool
     requires { ⌜ k < 64 ⌝ }

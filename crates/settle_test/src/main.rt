@@ -11,12 +11,10 @@ use reference::paired;
 use reference::write_matchings;
 use rules::Work;
 use samples::Sheet;
-use samples::Style;
-use samples::drawn_sheet;
 use samples::is_one_sided;
+use samples::varied_sheet;
 use tally::add;
 use tally::compare;
-ghost use Prim.Native.Nat.{_≤_};
 
 const ROUNDS: u32 = 3072;
 
@@ -26,31 +24,6 @@ pub struct Case {
     pub seed: u32,
     pub sheet: Sheet,
     pub stable: u32,
-}
-
-// From many ties to few, from lists that lean nowhere to lists that lean to the next joint.
-const WIDTHS: [u32; 4] = [2, 5, 11, 59];
-
-const TURNS: [u32; 4] = [0, 2, 4, 8];
-
-// 0 to 8 joints, then 2 to 8.
-fn joints(round: u32) -> usize
-    ensures { λ r. ⌜ r ≤ 8 ⌝ }
-{
-    let k = (round % 16) as usize;
-    if k < 9 { k } else { k - 7 }
-}
-
-// The sheet of a round.
-fn sheet_of(round: u32, seed: u32) -> Sheet {
-    let k = (round / 48 % 4) as usize;
-    let style = Style {
-        skip: round / 16 % 3,
-        lone: if round / 192 % 2 == 0 { 2 } else { 0 },
-        width: WIDTHS[k],
-        turn: TURNS[k],
-    };
-    drawn_sheet(joints(round), seed, style)
 }
 
 // Where the end of settle's working is counted.
@@ -75,7 +48,7 @@ fn count_sheet(sums: [u32; 40], found: Found, end: Work) -> [u32; 40] {
 // One sheet. All super-stable matchings pair the same joints.
 fn try_sheet(round: u32, rows: &[[u8; 8]; 764], sums: [u32; 40]) -> [u32; 40] {
     let seed = 181 * (round % 65536) % 65537;
-    let sheet = sheet_of(round, seed);
+    let sheet = varied_sheet(round, seed);
     let bands = sheet.bands;
     let end = rules::ended(rules::fresh(sheet.n, bands, true));
     let found = find_stable(bands, rows, paired(rules::partners(end)));

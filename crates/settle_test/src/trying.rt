@@ -13,6 +13,7 @@ use replay::odd;
 use replay::with_record;
 use rules::Answer;
 use rules::Work;
+use rules::any_of;
 use rules::fresh;
 use samples::Sheet;
 use samples::next;
@@ -116,12 +117,6 @@ fn try_walk(case: Case, sums: [u32; 40], walk: Walk) -> [u32; 40] {
 fn any_byte(x: u32, n: usize) -> u8 {
     let k = (x % 65537) as usize % (n % 9 + 2);
     if n < k { 255 } else { (k % 10) as u8 }
-}
-
-// A joint of a set: the first from x on, in a ring.
-fn any_of(set: u64, x: u32) -> u8 {
-    let from = x % 8;
-    ((u64::trailing_zeros((set | (set << 8)) >> from) % 8 + from) % 8) as u8
 }
 
 // Kinds of any record: of eight, three are steps, one sets a mark, two return and two are no kind.

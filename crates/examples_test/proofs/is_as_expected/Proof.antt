@@ -3,8 +3,8 @@ use native.Mathlib.Omega.{arith}
 use lib.ListN.{length-append}
 use lib.Seq.{length-take-le}
 use borrow.Author.Needs.{needs}
-use Rattle.listing_test.proofs.is_as_expected.Statement.{statement}
-use Rattle.listing_test.proofs.is_as_expected.Tie as tie
+use Rattle.examples_test.proofs.is_as_expected.Statement.{statement}
+use Rattle.examples_test.proofs.is_as_expected.Tie as tie
 
 large-buffer-requires : tie.Need-large-buffer-requires
 large-buffer-requires c κs = search needs
