@@ -1,20 +1,6 @@
 // Sheets of up to 64 pairs: joints 0 and 1 list each other, 2 and 3, and so on.
+use samples::no_entries;
 ghost use Prim.Native.Nat.{_<_, _≤_};
-
-// Two letters for each label.
-fn labels(n: usize) -> [u8; 2436]
-    requires { ⌜ n ≤ 128 ⌝ }
-{
-    let mut bytes = [0u8; 2436];
-    bytes[0] = n as u8;
-    let mut i = 0;
-    while i < n {
-        bytes[16 * i + 1] = (97 + i / 16) as u8;
-        bytes[16 * i + 2] = (97 + i % 16) as u8;
-        i += 1;
-    }
-    bytes
-}
 
 // The other joint of i's pair.
 fn other(i: usize) -> usize
@@ -53,5 +39,5 @@ fn entries(bytes: [u8; 2436], n: usize) -> [u8; 2436]
 pub fn ladder(k: usize) -> [u8; 2436]
     requires { ⌜ k ≤ 64 ⌝ }
 {
-    entries(labels(2 * k), 2 * k)
+    entries(no_entries(2 * k), 2 * k)
 }

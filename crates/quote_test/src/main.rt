@@ -9,16 +9,15 @@ use calls::Phase;
 use ladders::ladder;
 use quote::Quoted;
 use quote::quote;
+use replay::Choices;
 use rules::PAIRED;
-use samples::Sheet;
 use samples::next;
 use samples::varied_sheet;
 use std::num::wrapping_add_u64;
 use tally::add;
 use tally::compare;
-use tariffs::Bytes;
-use tariffs::Steps;
-use walks::Walk;
+use tariffs::Tariff;
+use tariffs::drawn_tariff;
 use walks::drawn_walk;
 ghost use Prim.Native.Nat.{_<_, _≤_};
 
@@ -37,22 +36,6 @@ const ANSWERS: usize = 6;
 // An answer as one number: that of a refusal, 101 or 102 for none with its phase, 1000 and the sum.
 const SUM: u64 = 1000;
 
-// The terms of a quote: steps, how many of them count, the tariff's bytes, the rebate.
-struct Terms {
-    steps: Steps,
-    count: usize,
-    tariff: Bytes,
-    rebate: u32,
-}
-
-// A quote of a sheet, from which a byte is cut (damage 0) or after which there is one more (1).
-struct Case {
-    sheet: Sheet,
-    damage: u32,
-    walk: Walk,
-    terms: Terms,
-}
-
 fn number_of(answer: Quoted) -> u64 {
     match answer {
         Quoted::Refused(number) => number as u64,
@@ -64,35 +47,19 @@ fn number_of(answer: Quoted) -> u64 {
     }
 }
 
-fn drawn_terms(x: u32, damage: u32, rebate: u32) -> Terms {
-    let steps = tariffs::drawn_steps(x);
-    let count = (x % 65537 / 12 % 16) as usize + 1;
-    Terms {
-        steps: steps,
-        count: count,
-        tariff: tariffs::damaged(steps, count, damage),
-        rebate: rebate,
-    }
-}
-
 // What is due of an accepted sheet whose working ends so, or has a refused record: 16, 17, then that.
-fn due(terms: Terms, working: u32) -> u64 {
-    let tariff = terms.tariff;
+fn due(tariff: Tariff, rebate: u32, working: u32) -> u64 {
+    let bytes = tariff.bytes;
     if tariff.fault != 0 {
         return tariff.fault as u64;
     }
-    if 10000 < terms.rebate {
+    if 10000 < rebate {
         return 17;
     }
     if working < PAIRED {
         return working as u64;
     }
-    let sum = prices::payable(
-        terms.steps,
-        terms.count % 17,
-        working - PAIRED,
-        terms.rebate,
-    );
+    let sum = prices::payable(&bytes, tariff.count % 17, (working - PAIRED) % 65, rebate);
     wrapping_add_u64(SUM, sum)
 }
 
@@ -108,12 +75,6 @@ fn ask(
     let a = len % 65;
     let b = size % 89;
     number_of(quote(sheet, &choices[0..a], &tariff[0..b], rebate))
-}
-
-fn ask_by(sheet: &[u8], choices: [u8; 64], len: usize, terms: Terms) -> u64 {
-    let tariff = terms.tariff;
-    let bytes = tariff.bytes;
-    ask(sheet, choices, len, bytes, tariff.size, terms.rebate)
 }
 
 // One quote at a place, and its answer beside it.
@@ -134,10 +95,24 @@ fn try_ladder(counts: [u32; 40], round: u32) -> [u32; 40]
     let k = (round / 8) as usize;
     let sheet = ladder(k);
     let x = next(7 * round + 3);
-    let terms = drawn_terms(x, 9, next(x) % 10001);
-    let said = ask_by(&sheet[0..3 + 38 * k], [0u8; 64], 0, terms);
+    let rebate = next(x) % 10001;
+    let tariff = drawn_tariff(x, 9);
+    let bytes = tariff.bytes;
+    let said = ask(
+        &sheet[0..3 + 38 * k],
+        [0u8; 64],
+        0,
+        bytes,
+        tariff.size,
+        rebate,
+    );
     let sums = add_answer(counts, PAIRS, said);
-    compare(sums, 1, round, said == due(terms, PAIRED + round / 8))
+    compare(
+        sums,
+        1,
+        round,
+        said == due(tariff, rebate, PAIRED + round / 8),
+    )
 }
 
 fn try_ladders(counts: [u32; 40]) -> [u32; 40] {
@@ -151,25 +126,19 @@ fn try_ladders(counts: [u32; 40]) -> [u32; 40] {
     sums
 }
 
-// Where an answer is counted: a sum, none in phase one and two, refused 1, 8, 11 to 17.
+// Where an answer is counted: a sum, none in phase one and two, refused 1 to 17.
 fn place_of(answer: u64) -> usize {
+    if answer < 18 {
+        return ANSWERS + 2 + answer as usize;
+    }
     match answer {
         101 => ANSWERS + 1,
         102 => ANSWERS + 2,
-        1 => ANSWERS + 3,
-        8 => ANSWERS + 4,
-        11 => ANSWERS + 5,
-        12 => ANSWERS + 6,
-        13 => ANSWERS + 7,
-        14 => ANSWERS + 8,
-        15 => ANSWERS + 9,
-        16 => ANSWERS + 10,
-        17 => ANSWERS + 11,
         _ => ANSWERS,
     }
 }
 
-// No sheet here has more than 300 bytes, or none.
+// The size of a sheet from which a byte is cut (damage 0), or after which there is one more (1). None here has more than 300 bytes.
 fn damaged_size(size: usize, damage: u32) -> usize
     ensures { λ r. ⌜ r ≤ 384 ⌝ }
 {
@@ -195,38 +164,44 @@ fn sheet_due(damage: u32, rest: u64) -> u64 {
     }
 }
 
-fn case_of(round: u32) -> Case {
+// What quote answers for the first bytes of a sheet.
+fn ask_of(sheet: [u8; 384], end: usize, list: Choices, tariff: Tariff, rebate: u32) -> u64
+    requires { ⌜ end ≤ 384 ⌝ }
+{
+    let choices = list.bytes;
+    let steps = tariff.bytes;
+    ask(
+        &sheet[0..end],
+        choices,
+        list.len,
+        steps,
+        tariff.size,
+        rebate,
+    )
+}
+
+// One quote of a random sheet.
+fn try_round(counts: [u32; 40], round: u32) -> [u32; 40] {
     let seed = 181 * (round % 65536) % 65537;
     let a = next(seed);
     let b = next(a);
     let c = next(b);
     let sheet = varied_sheet(round, seed);
     let bands = sheet.bands;
-    Case {
-        sheet: sheet,
-        damage: a / 32 % 16,
-        walk: drawn_walk(sheet.n, bands, b),
-        terms: drawn_terms(c, a % 32, tariffs::rebate(next(c))),
-    }
-}
-
-fn ask_of(sheet: [u8; 384], size: usize, choices: [u8; 64], len: usize, terms: Terms) -> u64
-    requires { ⌜ size ≤ 384 ⌝ }
-{
-    ask_by(&sheet[0..size], choices, len, terms)
-}
-
-// One quote of a random sheet.
-fn try_case(counts: [u32; 40], round: u32, case: Case) -> [u32; 40] {
-    let sheet = case.sheet;
-    let walk = case.walk;
-    let list = walk.list;
-    let choices = list.bytes;
+    let walk = drawn_walk(sheet.n, bands, b);
+    let damage = a / 32 % 16;
+    let tariff = drawn_tariff(c, a % 32);
+    let rebate = tariffs::rebate(next(c));
     let bytes = sheet.bytes;
-    let size = damaged_size(sheet.size, case.damage);
-    let said = ask_of(bytes, size, choices, list.len, case.terms);
+    let said = ask_of(
+        bytes,
+        damaged_size(sheet.size, damage),
+        walk.list,
+        tariff,
+        rebate,
+    );
     let sums = add(add_answer(counts, SHEETS, said), place_of(said), 1);
-    let expected = sheet_due(case.damage, due(case.terms, walk.number));
+    let expected = sheet_due(damage, due(tariff, rebate, walk.number));
     compare(sums, 2, round, said == expected)
 }
 
@@ -234,7 +209,7 @@ fn try_rounds(counts: [u32; 40]) -> [u32; 40] {
     let mut sums = counts;
     let mut round = 0;
     while round < ROUNDS {
-        let more = try_case(sums, round, case_of(round));
+        let more = try_round(sums, round);
         sums = more;
         round += 1;
     }
@@ -247,7 +222,7 @@ fn report(counts: &[u32; 40]) {
 quotes of 0 to 64 pairs, their answers summed to 32 bits: # #\n\
 quotes of random sheets, likewise: # #\n\
 a sum, none phase 1, none phase 2: # # #\n\
-refused 1, 8, 11 to 17: # # # # # # # # #\n",
+refused 1 to 17: # # # # # # # # # # # # # # # # #\n",
         counts,
     );
 }

@@ -65,10 +65,6 @@ fn ending(list: Choices, number: u32) -> Walk {
     }
 }
 
-fn stage_of(work: Work) -> u32 {
-    work.stage
-}
-
 // What becomes of a working without choices.
 fn number_of(start: Work) -> u32 {
     let answer = answered(ended(start));
@@ -79,7 +75,7 @@ fn number_of(start: Work) -> u32 {
 fn number_after(start: Work, work: Work, joint: u8) -> u32 {
     let after = chosen(work, joint);
     if is_refused(after) {
-        return stage_of(after);
+        return after.stage;
     }
     number_of(start)
 }

@@ -205,6 +205,21 @@ pub fn varied_sheet(round: u32, seed: u32) -> Sheet {
     drawn_sheet(joints(round), seed, style)
 }
 
+// A sheet of up to 129 joints with no entries, and zeros after it: room for one entry of each of 128. Labels are 0a, 0b and so on.
+pub fn no_entries(n: usize) -> [u8; 2436]
+    requires { ⌜ n ≤ 129 ⌝ }
+{
+    let mut sheet = [0u8; 2436];
+    sheet[0] = n as u8;
+    let mut i = 0;
+    while i < n {
+        sheet[1 + 16 * i] = 48 + (i / 16) as u8;
+        sheet[2 + 16 * i] = 97 + (i % 16) as u8;
+        i += 1;
+    }
+    sheet
+}
+
 // Is there a band at place k, and none for its return?
 fn lacks_return(bands: &[u8; 64], k: usize) -> bool
     requires { ⌜ k < 64 ⌝ }

@@ -5,24 +5,10 @@ use crate::answers::number_of;
 use crate::places;
 use replay::none;
 use rules::FILL;
+use samples::no_entries;
 use samples::sheet_of;
 use tally::compare;
 ghost use Prim.Native.Nat.{_≤_};
-
-// A sheet of n joints with no entries, and zeros after it. Labels are 0a, 0b and so on.
-fn no_entries(n: usize) -> [u8; 2080]
-    requires { ⌜ n ≤ 129 ⌝ }
-{
-    let mut sheet = [0u8; 2080];
-    sheet[0] = n as u8;
-    let mut i = 0;
-    while i < n {
-        sheet[1 + 16 * i] = 48 + (i / 16) as u8;
-        sheet[2 + 16 * i] = 97 + (i % 16) as u8;
-        i += 1;
-    }
-    sheet
-}
 
 // A filled buffer, with 255 for each of 128 joints.
 fn alone() -> [u8; 256] {

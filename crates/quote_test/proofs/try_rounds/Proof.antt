@@ -18,7 +18,6 @@ try-rounds-spec =
     μ-loop
     (λ c. omega arith)
     (λ c κs. tt)
-    (λ c κs. tt)
     (λ c. omega arith)
     (λ c. omega arith)
     (λ c. omega arith)

@@ -1,8 +1,8 @@
 -- The loop stands at joint i.
 use Prim.Native.Nat.{_≤_, _-_}
 use native.Mathlib.Omega.{arith}
-use Rattle.settle_test.proofs.rows.no_entries.Statement.{statement}
-use Rattle.settle_test.proofs.rows.no_entries.Tie as tie
+use Rattle.samples.proofs.no_entries.Statement.{statement}
+use Rattle.samples.proofs.no_entries.Tie as tie
 
 abbrev Inv-loop : tie.InvT-loop
 Inv-loop n sheet₀ i₀ sheet i = i ≤ n
