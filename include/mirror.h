@@ -8,11 +8,11 @@
  * A call ends with an answer for every content and size of its arguments, always the same one for the same bytes. It
  * keeps nothing between calls, takes no memory but the stack, and may run in several threads at once. What a caller owes:
  *   - each pointer points to as many bytes as the size after it says (NULL will do where the size is 0);
- *   - `out` shares no byte with `sheet` or `choices`, and nothing writes to any of them during the call;
+ *   - `out` shares no byte with another argument, and nothing writes to any argument during the call;
  *   - 384 KiB of stack are free, whatever the sheet and the choices (64 KiB for mirror_check); measured, a call uses up to
  *     285,384 bytes (mirror_check 32,904). A main thread has far more; a thread that is started with a small stack may not.
  *
- * The library is for x86-64 Linux and calls memcpy and memset of the C library, nothing else.
+ * The library is for x86-64 Linux and calls memcpy, memmove and memset of the C library, nothing else.
  *
  * THE SHEET, in bytes, with no gaps:
  *   1 byte     n, the number of joints, 0 to 128; joints count from 0
@@ -48,8 +48,9 @@
  * THE TARIFF of mirror_quote, in bytes, with nothing after it:
  *   1 byte     the number of steps, 1 to 16
  *   5 x that   the steps: the first pair that the step covers (one byte), then the price in cents of each such pair (four bytes,
- *              low byte first). The first step covers from pair 1, later ones ascend. A pair costs what the last step that begins
- *              at or before it says; a step may begin beyond the last pair there is. So 500 from pair 1 and 300 from pair 4 is
+ *              low byte first). The first step covers from pair 1, each later one from a higher pair than the one before it. A pair
+ *              costs what the last step that begins at or before it says; a step may begin beyond the last pair there is. So
+ *              500 from pair 1 and 300 from pair 4 is
  *                  static const uint8_t tariff[] = { 2,  1, 244, 1, 0, 0,  4, 44, 1, 0, 0 };
  *              and five pairs cost 3 x 500 + 2 x 300 = 2,100 cents.
  *
@@ -91,8 +92,8 @@
 extern "C" {
 #endif
 
-/* The most joints, and the sizes in bytes that serve for every sheet: no longer sheet and no longer tariff is accepted, and
- * `out` need be no longer for mirror_settle and mirror_shorten. A program that reads a sheet into a buffer of
+/* The most joints, and the sizes in bytes that always serve: no longer sheet and no longer tariff is accepted, and `out` need
+ * be no longer for mirror_settle and mirror_shorten. A program that reads a sheet into a buffer of
  * MIRROR_SHEET_BYTES takes one byte more, or it will not see that bytes follow a largest sheet (refusal 8), and so for a tariff
  * (refusal 16). */
 #define MIRROR_JOINTS 128
@@ -213,12 +214,12 @@ uint64_t mirror_counts(const uint8_t *sheet, size_t sheet_size,
  *
  * Returns refusal + 256 x verdict + 65,536 x sum:
  *   verdict 3  a pairing; `sum` is payable, in cents, rounded down: total x (10,000 - rebate) / 10,000. No pairs cost 0.
- *   verdict 1  the sheet has no super-stable pairing, which the first phase showed; there is no sum.
+ *   verdict 1  the sheet has no super-stable pairing, which the first phase showed; there is no sum (its place has 0).
  *   verdict 2  the same, shown by the second phase.
- *   verdict 0  refused (1 to 6, 8, 11 to 17).
+ *   verdict 0  refused (1 to 6, 8, 11 to 17); the sum's place has 0.
  * Where nothing is refused the choices change nothing: the sum belongs to the sheet, the tariff and the rebate. One more pair
  * never lowers it, a higher rebate never raises it, and it is never above the total; it is below 2^38 for every tariff.
- *     answer = mirror_quote(sheet, size, NULL, 0, tariff, sizeof tariff, 250);
+ *     uint64_t answer = mirror_quote(sheet, size, NULL, 0, tariff, sizeof tariff, 250), cents;
  *     if (MIRROR_REFUSAL(answer) == MIRROR_ACCEPTED && MIRROR_VERDICT(answer) == MIRROR_DONE)
  *         cents = MIRROR_SUM(answer);
  */

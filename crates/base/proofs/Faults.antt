@@ -37,6 +37,11 @@ unfolding firstFault
 first-none zero later h = (refl, h)
 first-none (suc k) later h = absurd (omega arith)
 
+-- one without a fault may be left out behind the first
+pub fault-left-out : (f x : ℕ) (later : List ℕ) → x ≡ 0 → firstFault (f ∷ x ∷ later) ≡ firstFault (f ∷ later)
+fault-left-out zero x later h = fault-passes 0 _ refl ∙ fault-passes x later h ∙ sym (fault-passes 0 later refl)
+fault-left-out (suc f) x later h = fault-stops (suc f) _ (λ z. omega arith) ∙ sym (fault-stops (suc f) later (λ z. omega arith))
+
 -- a test with a number
 pub when-none : (b : Bool) (k : ℕ) → when b (suc k) ≡ 0 → b ≡ false
 when-none true k h = absurd (omega arith)

@@ -2,3 +2,4 @@
 pub mod Below
 pub mod Faults
 pub mod Claims
+pub mod Tables

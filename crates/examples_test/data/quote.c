@@ -5,6 +5,7 @@
  * The fox has ten pairs, three at 500 cents and seven at 300, and 2.5 % off: it prints "payable 3510". */
 #include "mirror.h"
 
+#include <ctype.h>
 #include <inttypes.h>
 #include <stdio.h>
 #include <stdlib.h>
@@ -13,13 +14,12 @@
 static size_t read_file(const char *path, uint8_t *bytes, size_t room)
 {
     FILE *file = fopen(path, "rb");
-    size_t size;
+    size_t size = file == NULL ? 0 : fread(bytes, 1, room, file);
 
-    if (file == NULL) {
+    if (file == NULL || ferror(file)) {
         perror(path);
         exit(2);
     }
-    size = fread(bytes, 1, room, file);
     fclose(file);
     return size;
 }
@@ -29,13 +29,13 @@ int main(int argc, char **argv)
     /* a byte more than the longest of each, so that bytes after one are seen */
     static uint8_t sheet[MIRROR_SHEET_BYTES + 1], tariff[MIRROR_TARIFF_BYTES + 1];
     size_t sheet_size, tariff_size;
-    unsigned long rebate = 0;
-    char *end = NULL;
+    unsigned long rebate;
+    char *end;
     uint64_t answer;
 
-    if (argc == 4)
-        rebate = strtoul(argv[3], &end, 10);
-    if (argc != 4 || end == argv[3] || *end != '\0') {
+    if (mirror_version() != MIRROR_VERSION)
+        return 2; /* linked against the library of another header */
+    if (argc != 4 || !isdigit((unsigned char)argv[3][0]) || (rebate = strtoul(argv[3], &end, 10), *end != '\0')) {
         fprintf(stderr, "usage: %s SHEET TARIFF REBATE\n", argv[0]);
         return 2;
     }

@@ -14,7 +14,7 @@ use Rattle.base.proofs.Faults.{answered-at, first-none, fault-passes, last-faul
 use Rattle.promises.specs.Claims.{Refuses}
 
 -- nothing is refused, or 11 to 15
-abbrev OfChoice : ℕ → Type 0
+abbrev pub OfChoice : ℕ → Type 0
 OfChoice r = (r ≡ 0) ⊎ ((11 ≤ r) × (r ≤ 15))
 
 -- The sheet's refusal f, 9 for a buffer of `room` bytes where `need` are due, and that of the choices c.

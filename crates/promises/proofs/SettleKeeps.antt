@@ -1,14 +1,16 @@
 -- What settle's answers promise.
 use mathlib.Core.Path.{_≡_, refl, sym, ap, _∙_}
-use mathlib.Core.Bool.{true, false}
+use mathlib.Core.Bool.{true, false, not}
 use mathlib.Core.List.{List, [], _∷_, _++_}
 use mathlib.Core.Logic.{_≢_, _↔_}
-use Prim.Native.Nat.{ℕ, zero, suc, _≤_}
+use Prim.Native.Nat.{ℕ, zero, suc, _/_, _≤_, _<_}
 use native.Mathlib.Omega.{arith}
 use lib.ListN.{length, take, drop, length-append, length-drop}
 use lib.Seq.{take-at, drop-at}
 use Rattle.base.specs.Claims.{First}
+use Rattle.base.specs.Below.{countBelow}
 use Rattle.base.specs.Faults.{firstFault}
+use Rattle.base.proofs.CountBelow.{count-same}
 use Rattle.base.proofs.Faults.{first-answered, fault-stops, fault-passes, last-fault}
 use Rattle.base.proofs.Tests.{never}
 use Rattle.sheet.specs.Format.{joints}
@@ -17,7 +19,7 @@ use Rattle.sheet.specs.Square.{squareOf}
 use Rattle.sheet.proofs.PromiseKept.{accepted-square}
 use Rattle.blocking.specs.declared.Checked.the-variants as C
 use Rattle.blocking.specs.Blocking.{isSuperStable}
-use Rattle.matching.specs.Matchings.{pairCount}
+use Rattle.matching.specs.Matchings.{isAlone, pairedJoints, pairCount}
 use Rattle.blocking.proofs.SuperStableTest.{is-super-stable-means}
 use Rattle.writing.specs.Written.{over}
 use Rattle.roommates.specs.declared.Stage.{Stage}
@@ -181,3 +183,17 @@ settle-same s cs ds out out′ h g =
     settle-ends s cs out y ∙ settled-for (verdictOn s cs) (pairsOn s cs)
     ∙ ap (λ (a : Answer). endedAs (a .verdict) (a .count)) e
     ∙ sym (settled-for (verdictOn s ds) (pairsOn s ds)) ∙ sym (settle-ends s ds out′ z)
+
+-- EVERY SUPER-STABLE MATCHING has as many pairs as settle's: the same joints are paired
+alone-alike : (n : ℕ) (m o : List ℕ) → length m ≡ n → length o ≡ n → ((a : ℕ) → a < n → isAlone m a ≡ isAlone o a) → pairedJoints m ≡ pairedJoints o
+unfolding pairedJoints
+alone-alike n m o e g h =
+    let counted : (l : List ℕ) → length l ≡ n → countBelow (length l) (λ a. not (isAlone l a)) ≡ countBelow n (λ a. not (isAlone l a))
+    = λ l f. ap (λ (i : ℕ). countBelow i (λ a. not (isAlone l a))) f in
+    counted m e ∙ count-same n _ _ (λ a lt. ap not (h a lt)) ∙ sym (counted o g)
+
+pub super-pairs : (s before after m : List ℕ) (k : ℕ) → sheetFault s ≡ 0 → PairingIs s before after k → Super s m → pairCount m ≡ k
+super-pairs s before after m k f r h =
+    let long : (o : List ℕ) → Super s o → length o ≡ joints s = λ o x. is-super-stable-means (joints s) (squareOf s) o (accepted-square s f) .0 x .0 in
+    let own = take (joints s) after in
+    ap (λ (i : ℕ). i / 2) (alone-alike (joints s) m own (long m h) (long own (r .super-stable)) (r .same-joints m h)) ∙ r .pairs

@@ -4,6 +4,7 @@ use mathlib.Core.List.{[], _∷_, _++_}
 use lib.ListN.{replicate}
 use Rattle.base.specs.Below.{anyBelow, allBelow, countBelow, sumBelow, lowestFrom, argmax, joined}
 use Rattle.base.specs.Faults.{firstFault, faultBelow}
+use Rattle.base.specs.Tables.{AllHold}
 use Rattle.base.proofs.Tables.{_&_}
 use Rattle.sections.specs.Labels.{visibleRun, allZero, labelOk, sameBytes, repeats, labelBad, labelsFault}
 use Rattle.sections.specs.Entries.{entryIn, entriesFrom, bandIn, entryFault}
@@ -20,7 +21,7 @@ use Rattle.roommates.specs.Moves.{inTwo, endOne, inOne, move, ruled, concluded}
 use Rattle.roommates.specs.Left.{partnerOn, pairingOf, entry, listBytes}
 use Rattle.records.specs.Records.{recordsOf, stepped, markSet, returnedTo, acts, follows, workedBy}
 use Rattle.records.specs.Standing.{stepBytes}
-use Rattle.promises.specs.Rows.{isIn, bandFrom, entriesOnward, sheetOf, sheet-g, AllHold, rows}
+use Rattle.promises.specs.Rows.{isIn, bandFrom, entriesOnward, sheetOf, sheet-g, Holds, rows}
 
 -- the bytes of row g's sheet
 pub sheet-g-bytes : sheet-g
@@ -29,7 +30,7 @@ pub sheet-g-bytes : sheet-g
 unfolding isIn bandFrom entriesOnward sheetOf joined
 sheet-g-bytes = refl
 
-pub starred : AllHold rows
+pub starred : AllHold Holds rows
 unfolding isIn bandFrom entriesOnward sheetOf anyBelow allBelow countBelow sumBelow lowestFrom argmax joined firstFault
     faultBelow visibleRun allZero labelOk sameBytes repeats labelBad labelsFault entryIn entriesFrom bandIn
     entryFault only sheetFaults sheetFault placed isPaired isPlaced isMatching

@@ -128,10 +128,6 @@ Holds (shorten-row s cs before answer after) = (shortenAnswer s cs before ≡ an
 Holds (check-row s m answer) = checkOf s m ≡ answer
 Holds (counts-row whole s cs number made cut) = countsOf whole s cs ≡ counts number made cut
 
-abbrev pub AllHold : List Row → Type 0
-AllHold [] = record {}
-AllHold (r ∷ rs) = Holds r × AllHold rs
-
 -- choices: joints one after another; a joint, a mark, a return
 abbrev pub steps : List ℕ → List ℕ
 steps cs = stepBytes cs

@@ -1,12 +1,12 @@
 // Tries quote beside prices worked out in another form: on sheets of 0 to 64 pairs, and on random sheets of up to 8 joints, with choices,
 // tariffs, rebates and sheets that are whole or damaged, beside the rules.
-mod ladders;
+mod pairs;
 mod prices;
 mod tariffs;
 mod walks;
 
 use calls::Phase;
-use ladders::ladder;
+use pairs::sheet_of_pairs;
 use quote::Quoted;
 use quote::quote;
 use replay::Choices;
@@ -18,11 +18,12 @@ use tally::add;
 use tally::compare;
 use tariffs::Tariff;
 use tariffs::drawn_tariff;
+use tariffs::is_broken;
 use walks::drawn_walk;
 ghost use Prim.Native.Nat.{_<_, _≤_};
 
 // Quotes of a number of pairs, eight for each; and of random sheets.
-const LADDERS: u32 = 520;
+const NUMBERS: u32 = 520;
 
 const ROUNDS: u32 = 6144;
 
@@ -50,8 +51,8 @@ fn number_of(answer: Quoted) -> u64 {
 // What is due of an accepted sheet whose working ends so, or has a refused record: 16, 17, then that.
 fn due(tariff: Tariff, rebate: u32, working: u32) -> u64 {
     let bytes = tariff.bytes;
-    if tariff.fault != 0 {
-        return tariff.fault as u64;
+    if is_broken(&bytes, tariff.size) {
+        return 16;
     }
     if 10000 < rebate {
         return 17;
@@ -59,7 +60,7 @@ fn due(tariff: Tariff, rebate: u32, working: u32) -> u64 {
     if working < PAIRED {
         return working as u64;
     }
-    let sum = prices::payable(&bytes, tariff.count % 17, (working - PAIRED) % 65, rebate);
+    let sum = prices::payable(&bytes, (working - PAIRED) % 65, rebate);
     wrapping_add_u64(SUM, sum)
 }
 
@@ -88,15 +89,15 @@ fn add_answer(counts: [u32; 40], place: usize, answer: u64) -> [u32; 40]
     )
 }
 
-// A quote of so many pairs, without choices.
-fn try_ladder(counts: [u32; 40], round: u32) -> [u32; 40]
+// A quote of so many pairs, without choices; of eight, one at the highest price.
+fn try_number(counts: [u32; 40], round: u32) -> [u32; 40]
     requires { ⌜ round < 520 ⌝ }
 {
     let k = (round / 8) as usize;
-    let sheet = ladder(k);
+    let sheet = sheet_of_pairs(k);
     let x = next(7 * round + 3);
     let rebate = next(x) % 10001;
-    let tariff = drawn_tariff(x, 9);
+    let tariff = drawn_tariff(x, if round % 8 == 0 { 9 } else { 10 });
     let bytes = tariff.bytes;
     let said = ask(
         &sheet[0..3 + 38 * k],
@@ -115,11 +116,11 @@ fn try_ladder(counts: [u32; 40], round: u32) -> [u32; 40]
     )
 }
 
-fn try_ladders(counts: [u32; 40]) -> [u32; 40] {
+fn try_numbers(counts: [u32; 40]) -> [u32; 40] {
     let mut sums = counts;
     let mut round = 0;
-    while round < LADDERS {
-        let more = try_ladder(sums, round);
+    while round < NUMBERS {
+        let more = try_number(sums, round);
         sums = more;
         round += 1;
     }
@@ -182,11 +183,10 @@ fn ask_of(sheet: [u8; 384], end: usize, list: Choices, tariff: Tariff, rebate: u
 
 // One quote of a random sheet.
 fn try_round(counts: [u32; 40], round: u32) -> [u32; 40] {
-    let seed = 181 * (round % 65536) % 65537;
-    let a = next(seed);
+    let a = next(97 * (round % 65536) + 11);
     let b = next(a);
     let c = next(b);
-    let sheet = varied_sheet(round, seed);
+    let sheet = varied_sheet(round, 181 * (round % 65536) % 65537);
     let bands = sheet.bands;
     let walk = drawn_walk(sheet.n, bands, b);
     let damage = a / 32 % 16;
@@ -228,5 +228,5 @@ refused 1 to 17: # # # # # # # # # # # # # # # # #\n",
 }
 
 fn main() {
-    report(&try_rounds(try_ladders([0u32; 40])));
+    report(&try_rounds(try_numbers([0u32; 40])));
 }

@@ -1,4 +1,5 @@
 // Tariffs and rebates from the generator, whole and damaged.
+use base::wide;
 use samples::next;
 ghost use Prim.Native.Nat.{_<_, _≤_};
 
@@ -9,12 +10,10 @@ struct Drawn {
     bytes: [u8; 88],
 }
 
-// A tariff's steps, after their count, how many there are, how many bytes are lent, and what is wrong with those: 16, or 0.
+// Bytes for a tariff, and how many of them are lent.
 pub struct Tariff {
     pub bytes: [u8; 88],
-    pub count: usize,
     pub size: usize,
-    pub fault: u32,
 }
 
 // The next step begins at pair 1, if it is the first, or after the one before it.
@@ -71,55 +70,78 @@ fn drawn_steps(seed: u32) -> [u8; 88] {
     drawn.bytes
 }
 
-// The tariff with another byte at a place, and of another size.
-fn broken(good: Tariff, at: usize, byte: u8, size: usize) -> Tariff
+fn with_byte(steps: [u8; 88], at: usize, byte: u8, size: usize) -> Tariff
     requires { ⌜ at < 88 ⌝ }
 {
-    let mut bytes = good.bytes;
+    let mut bytes = steps;
     bytes[at] = byte;
     Tariff {
         bytes: bytes,
-        count: good.count,
         size: size,
-        fault: 16,
     }
 }
 
-// The beginning of the step before the last.
+// The highest price from pair 1 on.
+fn highest() -> Tariff {
+    with_byte(with_price([1u8; 88], 2, 65535, 65535), 0, 1, 6)
+}
+
+// Where the step before the last begins; pair 2, where there is one step only.
 fn before_last(steps: &[u8; 88], count: usize) -> u8
     requires { ⌜ (1 ≤ count) × (count ≤ 16) ⌝ }
 {
     if count == 1 { 2 } else { steps[5 * count - 9] }
 }
 
-// A tariff of 1 to 16 steps, with one of nine damages: empty; no step; seventeen steps; a byte too few; a byte too many; the first step from
-// pair 0; from pair 255; the last from where the one before it begins; the last from pair 1, behind those that began later (either way from
-// pair 2, where it is the only one). From 9 on, none.
-pub fn drawn_tariff(seed: u32, damage: u32) -> Tariff {
+// A tariff of 1 to 16 steps as it should be, or: empty; no step; seventeen steps; a byte too few; a byte too many; any number for a step to
+// begin at; any byte anywhere; the last step from where the one before it begins; the count of another number of steps; one step at the
+// highest price.
+pub fn drawn_tariff(seed: u32, kind: u32) -> Tariff {
     let count = (seed % 65537 / 12 % 16) as usize + 1;
     let size = 5 * count + 1;
-    let last = 5 * count - 4;
-    let mut bytes = drawn_steps(seed);
-    bytes[0] = count as u8;
-    let again = before_last(&bytes, count);
-    let good = Tariff {
-        bytes: bytes,
-        count: count,
-        size: size,
-        fault: 0,
-    };
-    match damage {
-        0 => broken(good, 0, 0, 0),
-        1 => broken(good, 0, 0, 1),
-        2 => broken(good, 0, 17, 86),
-        3 => broken(good, 87, 0, size - 1),
-        4 => broken(good, 87, 0, size + 1),
-        5 => broken(good, 1, 0, size),
-        6 => broken(good, 1, 255, size),
-        7 => broken(good, last, again, size),
-        8 => broken(good, last, if count == 1 { 2 } else { 1 }, size),
-        _ => good,
+    let mut steps = drawn_steps(seed);
+    steps[0] = count as u8;
+    let again = before_last(&steps, count);
+    let x = next(seed) as usize;
+    let byte = (x / 256 % 256) as u8;
+    match kind {
+        0 => with_byte(steps, 87, 0, 0),
+        1 => with_byte(steps, 0, 0, 1),
+        2 => with_byte(steps, 0, 17, 86),
+        3 => with_byte(steps, 87, 0, size - 1),
+        4 => with_byte(steps, 87, 0, size + 1),
+        5 => with_byte(steps, 5 * (x % 16) + 1, byte, size),
+        6 => with_byte(steps, x % 81, byte, size),
+        7 => with_byte(steps, size - 5, again, size),
+        8 => with_byte(steps, 0, (x % 16) as u8 + 1, size),
+        9 => highest(),
+        _ => with_byte(steps, 87, 0, size),
     }
+}
+
+// Has a tariff not the form that it should have?
+pub fn is_broken(bytes: &[u8; 88], size: usize) -> bool {
+    let count = wide(bytes[0]);
+    if size != 5 * count + 1 {
+        return true;
+    }
+    if count == 0 {
+        return true;
+    }
+    if 16 < count {
+        return true;
+    }
+    let mut above = 0;
+    let mut j = 0;
+    while j < count {
+        let first = bytes[5 * j + 1];
+        if first <= above {
+            return true;
+        }
+        above = first;
+        j += 1;
+    }
+    bytes[1] != 1
 }
 
 // A rebate: of eight, one is 0, one is all, two are above all by one or by far, and four are between.

@@ -1,4 +1,4 @@
-// Sheets of up to 8 joints from a fixed generator, for the test programs. Bands stand row by row, 8 to a joint, 0 for unlisted.
+// Sheets for the test programs: of up to 8 joints from a fixed generator, and long ones without entries. Bands stand row by row, 8 to a joint, 0 for unlisted.
 ghost use Prim.Native.Nat.{_<_, _≤_};
 
 // Of four pairs about `skip` are not listed; of eight others about `lone` are listed by one side alone. Bands differ by up to `width`,

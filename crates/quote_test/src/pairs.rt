@@ -36,7 +36,7 @@ fn entries(bytes: [u8; 2436], n: usize) -> [u8; 2436]
 }
 
 // The sheet of k pairs, which has 3 + 38 × k bytes.
-pub fn ladder(k: usize) -> [u8; 2436]
+pub fn sheet_of_pairs(k: usize) -> [u8; 2436]
     requires { ⌜ k ≤ 64 ⌝ }
 {
     entries(no_entries(2 * k), 2 * k)

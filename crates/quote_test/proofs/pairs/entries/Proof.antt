@@ -1,8 +1,8 @@
 -- The loop stands at joint i.
 use Prim.Native.Nat.{_≤_, _-_}
 use native.Mathlib.Omega.{arith}
-use Rattle.quote_test.proofs.ladders.entries.Statement.{statement}
-use Rattle.quote_test.proofs.ladders.entries.Tie as tie
+use Rattle.quote_test.proofs.pairs.entries.Statement.{statement}
+use Rattle.quote_test.proofs.pairs.entries.Tie as tie
 
 abbrev Inv-loop : tie.InvT-loop
 Inv-loop n more₀ i₀ more i = i ≤ n
