@@ -98,24 +98,16 @@ first-answered faults k = (
   λ r. (is-first faults k (r .place) (r .inside) (r .stands) (r .fault) (r .earlier), r .fault),
 )
 
--- past the end there is none
-fault-inside : (faults : List ℕ) (i k : ℕ) → getD faults i 0 ≡ k → 1 ≤ k → i < length faults
-fault-inside [] i k h l = absurd (omega arith)
-fault-inside (f ∷ later) zero k h l = omega arith
-fault-inside (f ∷ later) (suc i) k h l = let r = fault-inside later i k h l in omega arith
+-- PLACE BY PLACE, for a number k that no other place can have: it is answered by the first, or by those behind the first
+pub fault-here : (f : ℕ) (later : List ℕ) (k : ℕ) → 1 ≤ k → firstFault later ≢ k → firstFault (f ∷ later) ≡ k ↔ (f ≡ k)
+fault-here zero later k some other = (λ h. absurd (other (sym (fault-passes 0 later refl) ∙ h)), λ e. absurd (omega arith))
+fault-here (suc f) later k some other = let e = fault-stops (suc f) later (λ z. omega arith) in (λ h. sym e ∙ h, λ h. e ∙ h)
 
--- Where no other place can have the number k, it is answered exactly if its own place has it and those before have none.
-pub answered-at : (faults : List ℕ) (i k : ℕ) → 1 ≤ k
-    → ((j : ℕ) → j ≢ i → ((l : ℕ) → l < j → getD faults l 0 ≡ 0) → getD faults j 0 ≢ k)
-    → firstFault faults ≡ k ↔ ((getD faults i 0 ≡ k) × ((l : ℕ) → l < i → getD faults l 0 ≡ 0))
-answered-at faults i k some apart = (
-  λ h.
-      let r = first-is faults k h some in
-      case (eq-ne (r .place) i)
-      (λ e. rw (← e) (r .stands, r .earlier))
-      (λ ne. absurd (apart (r .place) ne (r .earlier) (r .stands))),
-  λ h. is-first faults k i (fault-inside faults i k (h .0) some) (h .0) some (h .1),
-)
+pub fault-behind : (f : ℕ) (later : List ℕ) (k : ℕ) → f ≢ k → firstFault (f ∷ later) ≡ k ↔ ((f ≡ 0) × (firstFault later ≡ k))
+fault-behind zero later k other = let e = fault-passes 0 later refl in (λ h. (refl, sym e ∙ h), λ h. e ∙ h .1)
+fault-behind (suc f) later k other =
+    let e = fault-stops (suc f) later (λ z. omega arith) in
+    (λ h. absurd (other (sym e ∙ h)), λ h. absurd (omega (arith, h .0)))
 
 all-none : (faults : List ℕ) → firstFault faults ≡ 0 → (i : ℕ) → getD faults i 0 ≡ 0
 all-none [] h i = refl

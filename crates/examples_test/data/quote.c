@@ -29,13 +29,15 @@ int main(int argc, char **argv)
     /* a byte more than the longest of each, so that bytes after one are seen */
     static uint8_t sheet[MIRROR_SHEET_BYTES + 1], tariff[MIRROR_TARIFF_BYTES + 1];
     size_t sheet_size, tariff_size;
-    unsigned long rebate;
-    char *end;
+    unsigned long rebate = 0;
+    char *end = NULL;
     uint64_t answer;
 
     if (mirror_version() != MIRROR_VERSION)
         return 2; /* linked against the library of another header */
-    if (argc != 4 || !isdigit((unsigned char)argv[3][0]) || (rebate = strtoul(argv[3], &end, 10), *end != '\0')) {
+    if (argc == 4 && isdigit((unsigned char)argv[3][0]))
+        rebate = strtoul(argv[3], &end, 10);
+    if (end == NULL || *end != '\0') {
         fprintf(stderr, "usage: %s SHEET TARIFF REBATE\n", argv[0]);
         return 2;
     }

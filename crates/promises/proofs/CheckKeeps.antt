@@ -4,13 +4,13 @@ use mathlib.Core.Bool.{Bool, true, false, not}
 use mathlib.Core.List.{List}
 use mathlib.Core.Logic.{_⊎_, inl, inr, _≢_, _↔_}
 use mathlib.Core.Option.{Option, none, some}
-use Prim.Native.Nat.{ℕ, zero, suc, _≤_, _<_}
+use Prim.Native.Nat.{ℕ, zero, suc, _≤_}
 use native.Mathlib.Omega.{arith}
-use lib.ListN.{length, getD}
+use lib.ListN.{length}
 use Rattle.base.specs.Claims.{First}
 use Rattle.base.specs.Faults.{when, firstFault}
 use Rattle.base.proofs.Cases.{case, unlike}
-use Rattle.base.proofs.Faults.{first-answered, answered-at, first-none, first-holds, fault-passes, last-fault}
+use Rattle.base.proofs.Faults.{first-answered, first-none, first-holds, fault-here, fault-behind, fault-passes, last-fault}
 use Rattle.base.proofs.Tests.{never, not-so}
 use Rattle.sheet.specs.Format.{joints}
 use Rattle.sheet.specs.Refusals.{sheetFault}
@@ -106,30 +106,20 @@ module _ (s m : List ℕ) where
   by-sheet : (k : ℕ) → 1 ≤ k → k ≤ 8 → checkOf s m ≡ Refused k ↔ (sheetFault s ≡ k)
   by-sheet k one few =
       let a = checked-refused (firstFault (checkFaults s m)) k pair in
-      let at = answered-at (checkFaults s m) 0 k one others in
-      (λ h. at .0 (a .0 h .0) .0, λ e. a .1 (at .1 (e, λ l g. absurd (omega arith)), one))
-    where
-      others : (j : ℕ) → j ≢ 0 → ((l : ℕ) → l < j → getD (checkFaults s m) l 0 ≡ 0) → getD (checkFaults s m) j 0 ≢ k
-      others zero ne earlier = absurd (ne refl)
-      others (suc zero) ne earlier = ten-only (isMatching n t m) k one (omega arith)
-      others (suc (suc j)) ne earlier = λ e. omega arith
+      let own = fault-here (sheetFault s) _ k one (λ e. ten-only (isMatching n t m) k one (omega arith) (sym (last-fault _) ∙ e)) in
+      (λ h. own .0 (a .0 h .0), λ e. a .1 (own .1 e, one))
 
   by-ten : checkOf s m ≡ Refused 10 ↔ ((sheetFault s ≡ 0) × ((length m ≡ n) × Matching n (at t) (partner m) → ⊥))
   by-ten =
       let a = checked-refused (firstFault (checkFaults s m)) 10 pair in
-      let r = answered-at (checkFaults s m) 1 10 (omega arith) others in (
+      let r = fault-behind (sheetFault s) _ 10 (λ e. omega (arith, sheet-most s)) in (
         λ h.
             let w = r .0 (a .0 h .0) in
-            (w .1 0 (omega arith), λ x. never _ (is-matching-means n t m .1 x) (ten-is _ (w .0))),
+            (w .0, λ x. never _ (is-matching-means n t m .1 x) (ten-is _ (sym (last-fault _) ∙ w .1))),
         λ h.
             let none : isMatching n t m ≡ false = not-so (isMatching n t m) (λ q. h .1 (is-matching-means n t m .0 q)) in
-            a .1 (r .1 (rw none refl, λ l g. let e : l ≡ 0 = omega arith in rw e (h .0)), omega arith),
+            a .1 (r .1 (h .0, last-fault _ ∙ rw none refl), omega arith),
       )
-    where
-      others : (j : ℕ) → j ≢ 1 → ((l : ℕ) → l < j → getD (checkFaults s m) l 0 ≡ 0) → getD (checkFaults s m) j 0 ≢ 10
-      others zero ne earlier = λ e. omega (arith, sheet-most s)
-      others (suc zero) ne earlier = absurd (ne refl)
-      others (suc (suc j)) ne earlier = λ e. omega arith
 
   holds : checkOf s m ≡ Holds ↔ (sheetFault s ≡ 0) × (length m ≡ n) × SuperStable n (at t) (partner m)
   holds =

@@ -119,7 +119,7 @@ module _ (s cs out : List ℕ) where
   settle-refuses =
       rw (counts-number (sheetFault s) (settlesBy (joints s) (squareOf s) cs))
       (refuses (sheetFault s) (length out) (joints s) (settlesBy (joints s) (squareOf s) cs .refusal) (sheet-numbers s)
-      (λ f. refusal-number true (joints s) (squareOf s) cs)
+      (refusal-number true (joints s) (squareOf s) cs)
       (λ k. settleAnswer s cs out ≡ S.Refused k)
       says)
 

@@ -106,7 +106,7 @@ module _ (s cs out : List ℕ) where
   shorten-refuses =
       rw (counts-number (sheetFault s) (shortensBy (joints s) (squareOf s) cs))
       (refuses (sheetFault s) (length out) (2 + 3 * rankCount s) (shortensBy (joints s) (squareOf s) cs .refusal) (sheet-numbers s)
-      (λ f. refusal-number false (joints s) (squareOf s) cs)
+      (refusal-number false (joints s) (squareOf s) cs)
       (λ k. shortenAnswer s cs out ≡ L.Refused k)
       says)
 
