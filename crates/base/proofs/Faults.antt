@@ -2,14 +2,16 @@
 use mathlib.Core.Path.{_≡_, refl, sym, _∙_}
 use mathlib.Core.Bool.{Bool, true, false}
 use mathlib.Core.List.{List, [], _∷_}
-use mathlib.Core.Logic.{_≢_, _↔_}
+use mathlib.Core.Logic.{_⊎_, inl, inr, _≢_, _↔_}
 use Prim.Native.Nat.{ℕ, zero, suc, _+_, _≤_, _<_}
 use native.Mathlib.Numerals.{add-one}
 use native.Mathlib.Omega.{arith}
+use lib.Dec.{ltb}
 use lib.ListN.{length, getD}
+use borrow.Author.Tests.{lt-ltb, le-ltb}
 use Rattle.base.specs.Faults.{when, firstFault, faultBelow}
 use Rattle.base.specs.Claims.{First, FirstAnswered, NoneAnswered}
-use Rattle.base.proofs.Cases.{case, eq-ne, below-suc}
+use Rattle.base.proofs.Cases.{case, eq-ne, lt-ge, below-suc}
 
 -- the first of a list is there, or the list goes on behind it
 pub fault-stops : (f : ℕ) (later : List ℕ) → (f ≡ 0 → ⊥) → firstFault (f ∷ later) ≡ f
@@ -46,6 +48,9 @@ fault-left-out (suc f) x later h = fault-stops (suc f) _ (λ z. omega arith) ∙
 pub when-none : (b : Bool) (k : ℕ) → when b (suc k) ≡ 0 → b ≡ false
 when-none true k h = absurd (omega arith)
 when-none false k h = refl
+
+pub when-less : (a b k : ℕ) → ((when (ltb a b) k ≡ 0) × (b ≤ a)) ⊎ ((when (ltb a b) k ≡ k) × (a < b))
+when-less a b k = case (lt-ge a b) (λ h. inr (rw (lt-ltb a b h) refl, h)) (λ h. inl (rw (le-ltb a b h) refl, h))
 
 pub when-holds : (P : ℕ → Type 0) (b : Bool) (k : ℕ) → P 0 → P k → P (when b k)
 when-holds P true k none h = h

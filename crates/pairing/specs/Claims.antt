@@ -1,8 +1,10 @@
 -- What C reads off an answer is what was answered: the macros of include/mirror.h take a number apart into the parts that made it.
 use mathlib.Core.Path.{_≡_}
-use Prim.Native.Nat.{ℕ, _/_, _%_, _<_}
+use Prim.Native.Nat.{ℕ, _+_, _*_, _/_, _%_, _<_}
 use Rattle.calls.specs.declared.Counts.{Counts}
-use Rattle.pairing.specs.CCodes.{packed, countsCode}
+use Rattle.calls.specs.declared.Phase.the-variants as P
+use Rattle.quote.specs.declared.Quoted.the-variants as Q
+use Rattle.pairing.specs.CCodes.{packed, countsCode, quotedCode}
 
 -- MIRROR_REFUSAL; MIRROR_VERDICT and MIRROR_HOLDS; MIRROR_COUNT, MIRROR_PAIR and MIRROR_SUM
 abbrev pub PartsReadBack : Type 0
@@ -10,6 +12,13 @@ PartsReadBack = (number verdict count : ℕ) → number < 256 → verdict < 256
     → (packed number verdict count % 256 ≡ number)
     × (packed number verdict count / 256 % 256 ≡ verdict)
     × (packed number verdict count / 65536 ≡ count)
+
+-- mirror_quote's numbers: a refusal alone; none in phase one or two; a sum behind 3 in the verdict's place
+pub record QuoteNumbers : Type 0 where
+  pub refused : (k : ℕ) → quotedCode (Q.Refused k) ≡ k
+  pub none-one : quotedCode (Q.None P.One) ≡ 256
+  pub none-two : quotedCode (Q.None P.Two) ≡ 512
+  pub payable : (sum : ℕ) → quotedCode (Q.Payable sum) ≡ 768 + 65536 * sum
 
 -- MIRROR_REFUSAL, MIRROR_PROPOSALS and MIRROR_CUTS
 abbrev pub CountsReadBack : Type 0

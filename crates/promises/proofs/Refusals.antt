@@ -7,8 +7,8 @@ use native.Mathlib.Omega.{arith}
 use lib.Dec.{ltb}
 use borrow.Author.Tests.{lt-ltb, le-ltb, ltb-false}
 use Rattle.base.specs.Faults.{when, firstFault}
-use Rattle.base.proofs.Cases.{case, lt-ge}
-use Rattle.base.proofs.Faults.{first-none, first-holds, fault-here, fault-behind, fault-passes, last-fault, when-none}
+use Rattle.base.proofs.Cases.{case}
+use Rattle.base.proofs.Faults.{first-none, first-holds, fault-here, fault-behind, fault-passes, last-fault, when-none, when-less}
 use Rattle.promises.specs.Claims.{Refuses}
 
 -- nothing is refused, or 11 to 15
@@ -27,13 +27,6 @@ no-fault f room need c h =
 
 pub all-pass : (f room need c : ℕ) → f ≡ 0 → need ≤ room → c ≡ 0 → firstFault (callFaults f room need c) ≡ 0
 all-pass f room need c e h z = fault-passes f _ e ∙ fault-passes _ _ (rw (le-ltb room need h) refl) ∙ last-fault c ∙ z
-
--- the number 9, or none
-nine-or : (room need : ℕ) → ((when (ltb room need) 9 ≡ 0) × (need ≤ room)) ⊎ ((when (ltb room need) 9 ≡ 9) × (room < need))
-nine-or room need =
-    case (lt-ge room need)
-    (λ h. inr (rw (lt-ltb room need h) refl, h))
-    (λ h. inl (rw (le-ltb room need h) refl, h))
 
 -- a refusal's number
 abbrev Number : ℕ → Type 0
@@ -55,14 +48,14 @@ module _ (f room need c : ℕ) (known : (f ≤ 6) ⊎ (f ≡ 8)) (choice : OfCho
 
   by-sheet : (k : ℕ) → 1 ≤ k → k ≤ 8 → firstFault faults ≡ k ↔ (f ≡ k)
   by-sheet k some low =
-      let other : nine ≢ k = λ e. case (nine-or room need) (λ h. omega (arith, h .0)) (λ h. omega (arith, h .0)) in
+      let other : nine ≢ k = λ e. case (when-less room need 9) (λ h. omega (arith, h .0)) (λ h. omega (arith, h .0)) in
       fault-here f (nine ∷ c ∷ []) k some (first-holds (λ i. i ≢ k) nine (c ∷ []) other (not-choice k some (omega arith)))
 
   by-buffer : firstFault faults ≡ 9 ↔ ((f ≡ 0) × (room < need))
   by-buffer =
       let sheet = fault-behind f (nine ∷ c ∷ []) 9 (λ e. omega (arith, small)) in
       let own = fault-here nine (c ∷ []) 9 (omega arith) (not-choice 9 (omega arith) (omega arith)) in (
-        λ h. let r = sheet .0 h in let e = own .0 (r .1) in (r .0, case (nine-or room need) (λ g. absurd (omega (arith, g .0))) (λ g. g .1)),
+        λ h. let r = sheet .0 h in let e = own .0 (r .1) in (r .0, case (when-less room need 9) (λ g. absurd (omega (arith, g .0))) (λ g. g .1)),
         λ h. sheet .1 (h .0, own .1 (rw (lt-ltb room need (h .1)) refl)),
       )
 
@@ -70,7 +63,7 @@ module _ (f room need c : ℕ) (known : (f ≤ 6) ⊎ (f ≡ 8)) (choice : OfCho
   by-choice : (k : ℕ) → 11 ≤ k → firstFault faults ≡ k ↔ ((need ≤ room) × (firstFault (f ∷ (c ∷ [])) ≡ k))
   by-choice k big =
       let sheet = fault-behind f (nine ∷ c ∷ []) k (λ e. omega (arith, small)) in
-      let buffer = fault-behind nine (c ∷ []) k (λ e. case (nine-or room need) (λ h. omega (arith, h .0)) (λ h. omega (arith, h .0))) in
+      let buffer = fault-behind nine (c ∷ []) k (λ e. case (when-less room need 9) (λ h. omega (arith, h .0)) (λ h. omega (arith, h .0))) in
       let alone = fault-behind f (c ∷ []) k (λ e. omega (arith, small)) in (
         λ h. let r = sheet .0 h in let l = buffer .0 (r .1) in (ltb-false room need (when-none _ _ (l .0)), alone .1 (r .0, l .1)),
         λ h. let r = alone .0 (h .1) in sheet .1 (r .0, buffer .1 (rw (le-ltb room need (h .0)) refl, r .1)),
@@ -79,7 +72,7 @@ module _ (f room need c : ℕ) (known : (f ≤ 6) ⊎ (f ≡ 8)) (choice : OfCho
   numbers : Number (firstFault faults)
   numbers =
       first-holds Number f _ (λ some. case known (λ h. inl (some, h)) (λ h. inr (inl (omega arith, omega arith))))
-      (first-holds Number nine _ (λ some. case (nine-or room need) (λ h. absurd (omega (arith, h .0))) (λ h. inr (inl (omega (arith, h .0), omega (arith, h .0)))))
+      (first-holds Number nine _ (λ some. case (when-less room need 9) (λ h. absurd (omega (arith, h .0))) (λ h. inr (inl (omega (arith, h .0), omega (arith, h .0)))))
       (rw (last-fault c) (λ some. case choice (λ h. absurd (omega arith)) (λ h. inr (inr h)))))
 
   pub refuses : (Refused : ℕ → Type 0) → ((k : ℕ) → Refused k ↔ ((firstFault faults ≡ k) × (1 ≤ k))) → Refuses f (firstFault (f ∷ (c ∷ []))) need room Refused
