@@ -1,5 +1,5 @@
 // Tries check: row j of document 01, some refusals, and every vector of partner bytes for random sheets of up to 6 joints,
-// beside a reference written straight from the definition.
+// beside a reference written straight from the definition; and the number of every pair of 128 joints, counted one after another.
 use base::wide;
 use blocking::Checked;
 use calls::checking::check;
@@ -10,6 +10,7 @@ use reference::worth;
 use samples::Style;
 use samples::drawn_sheet;
 use samples::is_one_sided;
+use samples::no_entries;
 use samples::sheet_of;
 use std::num::wrapping_add_u32;
 use tally::add;
@@ -40,6 +41,9 @@ const ANSWERS: usize = 2;
 const ENDS: usize = 10;
 
 const SHEETS: usize = 13;
+
+// How many pairs of 128 joints there were.
+const PAIRS: usize = 15;
 
 // The bands of row g: 0: 1 3; 1: 2 0; 2: 3 1; 3: 0 2. The band of b on a's list stands at 8 × a + b.
 fn row_g_bands() -> [u8; 64] {
@@ -179,6 +183,48 @@ fn try_rounds(counts: [u32; 40]) -> [u32; 40] {
     sums
 }
 
+// A sheet of 128 joints, of which a and b alone list each other, a below b.
+fn sheet_of_pair(labels: [u8; 2436], a: usize, b: usize) -> [u8; 2436]
+    requires { ⌜ (a < 128) × (b < 128) ⌝ }
+{
+    let mut sheet = labels;
+    sheet[2049] = 2;
+    sheet[2051] = a as u8;
+    sheet[2052] = b as u8;
+    sheet[2053] = 1;
+    sheet[2054] = b as u8;
+    sheet[2055] = a as u8;
+    sheet[2056] = 1;
+    sheet
+}
+
+// One pair, if a is below b, which blocks where nobody is paired. Its number is how many pairs came before it.
+fn try_pair(counts: [u32; 40], labels: [u8; 2436], a: usize, b: usize) -> [u32; 40]
+    requires { ⌜ (a < 128) × (b < 128) ⌝ }
+{
+    if b <= a {
+        return counts;
+    }
+    let sheet = sheet_of_pair(labels, a, b);
+    let answer = number_of(check(&sheet[0..2057], &[255u8; 128]));
+    let before = counts[PAIRS];
+    let sums = add(counts, PAIRS, 1);
+    compare(sums, 2, before, answer == wrapping_add_u32(BLOCKED, before))
+}
+
+// Every pair of 128 joints: by the higher joint, then by the lower.
+fn try_pairs(counts: [u32; 40]) -> [u32; 40] {
+    let labels = no_entries(128);
+    let mut sums = counts;
+    let mut k = 0;
+    while k < 16384 {
+        let more = try_pair(sums, labels, k % 128, k / 128);
+        sums = more;
+        k += 1;
+    }
+    sums
+}
+
 // What check answers to a pairing, which stands after its length.
 fn answer_to(sheet: &[u8], offered: [u8; 6]) -> u32 {
     let len = wide(offered[0]);
@@ -218,7 +264,8 @@ not symmetric: #\n\
 not listed: #\n\
 an empty sheet: #\n\
 vectors that held, were refused, were blocked: # # #\n\
-sheets, with an entry that is not returned: # #\n",
+sheets, with an entry that is not returned: # #\n\
+pairs of 128 joints, numbered one after another: #\n",
         counts,
     );
 }
@@ -227,5 +274,5 @@ fn main() {
     let sheet = row_g();
     let one = try_offered(&sheet[0..91], [0u32; 40]);
     let two = add(one, ANSWERS + 7, number_of(check(&sheet[0..0], b"\x01")));
-    report(&try_rounds(two));
+    report(&try_pairs(try_rounds(two)));
 }

@@ -1,4 +1,5 @@
 // Partner bytes over a sheet's joints and square: whether they are a matching, and what they count.
+use pair_rows::row_start;
 ghost use mathlib.Core.Path.{_≡_};
 ghost use Prim.Native.Nat.{_≤_, _<_};
 ghost use lib.ListN.{length};
@@ -83,5 +84,5 @@ pub fn pair_number(a: usize, b: usize) -> usize
     requires { ⌜ (a < b) × (b < 128) ⌝ }
     ensures { λ r. ⌜ r ≡ pairNumber a b ⌝ }
 {
-    b * (b - 1) / 2 + a
+    row_start(b) as usize + a
 }
