@@ -2,10 +2,10 @@
 use mathlib.Core.Path.{_≡_, refl, ap}
 use Prim.Native.Nat.{ℕ, zero, suc, _+_, _-_, _*_, _/_, _≤_, _<_}
 use native.Mathlib.Nat.{zero-add, mul-suc, suc-mul}
-use native.Mathlib.Numerals.{sub-one}
+use native.Mathlib.Numerals.{add-one, sub-one}
 use native.Mathlib.Omega.{arith}
 use Rattle.matching.specs.Matchings.{pairNumber}
-use Rattle.matching.specs.Claims.{PairNumberRises, PairNumberSmall, PairNumberInjective}
+use Rattle.matching.specs.Claims.{PairNumberCounts, PairNumberRises, PairNumberSmall, PairNumberInjective}
 use Rattle.base.proofs.Cases.{case, lt-ge}
 
 -- how many pairs have their higher joint below b
@@ -35,6 +35,14 @@ up-to : (b d : ℕ) → b ≤ d → tri b ≤ tri d
 up-to b d h =
     let e : d - b + b ≡ d = omega arith in
     omega (arith, tri-rises (d - b) b, ap tri e)
+
+pub pair-number-counts : PairNumberCounts
+unfolding tri
+pair-number-counts = record {
+  first = refl;
+  along = λ a b. omega arith;
+  onward = λ b h. omega (arith, tri-suc b, ap (λ (x : ℕ). x * (x - 1) / 2) (add-one b));
+}
 
 -- whoever the lower joints are, a higher joint further up means a higher number
 pub pair-number-rises : PairNumberRises
