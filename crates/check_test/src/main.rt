@@ -183,11 +183,11 @@ fn try_rounds(counts: [u32; 40]) -> [u32; 40] {
     sums
 }
 
-// A sheet of 128 joints, of which a and b alone list each other, a below b.
-fn sheet_of_pair(labels: [u8; 2436], a: usize, b: usize) -> [u8; 2436]
-    requires { ⌜ (a < 128) × (b < 128) ⌝ }
+// A sheet of 128 joints without entries, then with two: a and b list each other. Their count stands at 2049, they from 2051 on.
+fn sheet_of_pair(bare: [u8; 2436], a: usize, b: usize) -> [u8; 2436]
+    requires { ⌜ (a < b) × (b < 128) ⌝ }
 {
-    let mut sheet = labels;
+    let mut sheet = bare;
     sheet[2049] = 2;
     sheet[2051] = a as u8;
     sheet[2052] = b as u8;
@@ -199,13 +199,13 @@ fn sheet_of_pair(labels: [u8; 2436], a: usize, b: usize) -> [u8; 2436]
 }
 
 // One pair, if a is below b, which blocks where nobody is paired. Its number is how many pairs came before it.
-fn try_pair(counts: [u32; 40], labels: [u8; 2436], a: usize, b: usize) -> [u32; 40]
+fn try_pair(counts: [u32; 40], bare: [u8; 2436], a: usize, b: usize) -> [u32; 40]
     requires { ⌜ (a < 128) × (b < 128) ⌝ }
 {
     if b <= a {
         return counts;
     }
-    let sheet = sheet_of_pair(labels, a, b);
+    let sheet = sheet_of_pair(bare, a, b);
     let answer = number_of(check(&sheet[0..2057], &[255u8; 128]));
     let before = counts[PAIRS];
     let sums = add(counts, PAIRS, 1);
@@ -214,11 +214,11 @@ fn try_pair(counts: [u32; 40], labels: [u8; 2436], a: usize, b: usize) -> [u32; 
 
 // Every pair of 128 joints: by the higher joint, then by the lower.
 fn try_pairs(counts: [u32; 40]) -> [u32; 40] {
-    let labels = no_entries(128);
+    let bare = no_entries(128);
     let mut sums = counts;
     let mut k = 0;
     while k < 16384 {
-        let more = try_pair(sums, labels, k % 128, k / 128);
+        let more = try_pair(sums, bare, k % 128, k / 128);
         sums = more;
         k += 1;
     }

@@ -1,11 +1,11 @@
--- Pair numbers: the pairs below a higher joint come first, so no two pairs share a number, and 128 joints have 8,128.
+-- Pair numbers: one after another, the pairs below a higher joint first, so no two pairs share a number, and 128 joints have 8,128.
 use mathlib.Core.Path.{_≡_, refl, ap}
 use Prim.Native.Nat.{ℕ, zero, suc, _+_, _-_, _*_, _/_, _≤_, _<_}
-use native.Mathlib.Nat.{zero-add, mul-suc, suc-mul}
-use native.Mathlib.Numerals.{add-one, sub-one}
+use native.Mathlib.Nat.{zero-add, add-suc, mul-suc, suc-mul}
+use native.Mathlib.Numerals.{sub-one}
 use native.Mathlib.Omega.{arith}
 use Rattle.matching.specs.Matchings.{pairNumber}
-use Rattle.matching.specs.Claims.{PairNumberCounts, PairNumberRises, PairNumberSmall, PairNumberInjective}
+use Rattle.matching.specs.Claims.{PairNumberConsecutive, PairNumberRises, PairNumberSmall, PairNumberInjective}
 use Rattle.base.proofs.Cases.{case, lt-ge}
 
 -- how many pairs have their higher joint below b
@@ -36,12 +36,12 @@ up-to b d h =
     let e : d - b + b ≡ d = omega arith in
     omega (arith, tri-rises (d - b) b, ap tri e)
 
-pub pair-number-counts : PairNumberCounts
+pub pair-number-consecutive : PairNumberConsecutive
 unfolding tri
-pair-number-counts = record {
+pair-number-consecutive = record {
   first = refl;
   along = λ a b. omega arith;
-  onward = λ b h. omega (arith, tri-suc b, ap (λ (x : ℕ). x * (x - 1) / 2) (add-one b));
+  onward = λ b. omega (arith, tri-suc (b + 1), ap (λ (x : ℕ). x * (x - 1) / 2) (add-suc b 1));
 }
 
 -- whoever the lower joints are, a higher joint further up means a higher number

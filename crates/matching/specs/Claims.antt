@@ -3,7 +3,7 @@ use mathlib.Core.Path.{_≡_}
 use mathlib.Core.Bool.{true}
 use mathlib.Core.Logic.{_↔_}
 use mathlib.Core.List.{List}
-use Prim.Native.Nat.{ℕ, _+_, _-_, _*_, _≤_, _<_}
+use Prim.Native.Nat.{ℕ, _+_, _*_, _≤_, _<_}
 use lib.ListN.{length}
 use Rattle.sheet.specs.Square.{at, SquarePromise}
 use Rattle.matching.specs.Matchings.{partner, isMatching, pairedJoints, aloneCount, pairCount, pairNumber}
@@ -21,10 +21,10 @@ abbrev pub TwoToAPair : Type 0
 TwoToAPair = (n : ℕ) (t : List (List ℕ)) (m : List ℕ) → SquarePromise n t → isMatching n t m ≡ true → 2 * pairCount m ≡ pairedJoints m
 
 -- the numbers go up by one: from 0, along the pairs with one higher joint, and from the last of these to the first of the next
-pub record PairNumberCounts : Type 0 where
+pub record PairNumberConsecutive : Type 0 where
   pub first : pairNumber 0 1 ≡ 0
   pub along : (a b : ℕ) → pairNumber (a + 1) b ≡ pairNumber a b + 1
-  pub onward : (b : ℕ) → 0 < b → pairNumber 0 (b + 1) ≡ pairNumber (b - 1) b + 1
+  pub onward : (b : ℕ) → pairNumber 0 (b + 2) ≡ pairNumber b (b + 1) + 1
 
 -- of two pairs the one with the lower higher joint comes first; no two pairs share a number; 128 joints have 8,128 pairs
 abbrev pub PairNumberRises : Type 0

@@ -1,5 +1,5 @@
 // Where each row of pair numbers starts: row b has the pairs of b with a lower joint, and comes after the rows of the joints below b.
-// For the crates above, which prove what it requires.
+// For the crates above, which prove what the function requires.
 ghost use mathlib.Core.Path.{_≡_};
 ghost use Prim.Native.Nat.{_-_, _*_, _/_, _<_};
 
@@ -135,7 +135,7 @@ const ROW_STARTS: [u16; 128] = [
     8001,
 ];
 
-// Entry b of the table, each of its 128.
+// Entry b of the table, for each b below 128.
 pub fn row_start(b: usize) -> u16
     requires { ⌜ b < 128 ⌝ }
     ensures { λ r. ⌜ r ≡ b * (b - 1) / 2 ⌝ }

@@ -5,10 +5,10 @@ use Rattle.check_test.proofs.try_pairs.Statement.{statement}
 use Rattle.check_test.proofs.try_pairs.Tie as tie
 
 abbrev Inv-loop : tie.InvT-loop
-Inv-loop labels sums₀ k₀ sums k = k ≤ 16384
+Inv-loop bare sums₀ k₀ sums k = k ≤ 16384
 
 abbrev μ-loop : tie.MeasureT-loop
-μ-loop labels sums₀ k₀ sums k = 16384 - k
+μ-loop bare sums₀ k₀ sums k = 16384 - k
 
 pub try-pairs-spec : {M : Type 1} → statement M
 try-pairs-spec =

@@ -14,7 +14,7 @@ use Rattle.pair_rows.proofs.row_start.Tie as tie
 use Rattle.pair_rows.proofs.row_start.Reads as reads
 use Rattle.pair_rows.proofs.row_start.Lts as lts
 
--- the list that the code reads from
+-- the list that the code reads from, taken from where it stands as the code runs: no copy of the table stands here
 abbrev table : tie.Start → List ℕ
 table c = lts.m2 reads.Pre reads.Post (c .args) (c .blocks) .1 .1 .0
 
