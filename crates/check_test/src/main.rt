@@ -183,7 +183,7 @@ fn try_rounds(counts: [u32; 40]) -> [u32; 40] {
     sums
 }
 
-// A sheet of 128 joints without entries, then with two: a and b list each other. Their count stands at 2049, they from 2051 on.
+// The bare sheet of 128 joints with two entries: a and b list each other. Their count stands at 2049, and they from 2051 on.
 fn sheet_of_pair(bare: [u8; 2436], a: usize, b: usize) -> [u8; 2436]
     requires { ⌜ (a < b) × (b < 128) ⌝ }
 {
