@@ -41,7 +41,7 @@ unfolding tri
 pair-number-consecutive = record {
   first = refl;
   along = λ a b. omega arith;
-  onward = λ b. omega (arith, tri-suc (b + 1), ap (λ (x : ℕ). x * (x - 1) / 2) (add-suc b 1));
+  onward = λ b. omega (arith, tri-suc (b + 1), ap tri (add-suc b 1));
 }
 
 -- whoever the lower joints are, a higher joint further up means a higher number
