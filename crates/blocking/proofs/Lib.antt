@@ -2,4 +2,3 @@
 pub mod BlockingTest
 pub mod LowestPair
 pub mod SuperStableTest
-pub mod Search

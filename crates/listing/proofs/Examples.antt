@@ -5,6 +5,7 @@ use Rattle.base.specs.Faults.{firstFault, faultBelow}
 use Rattle.sections.specs.Labels.{visibleRun, allZero, labelOk, sameBytes, repeats, labelBad, labelsFault}
 use Rattle.sections.specs.Entries.{entryIn, entriesFrom, bandIn, entryFault}
 use Rattle.square.specs.Mutual.{only}
+use Rattle.parents.specs.Parents.{extentFault, parentsFault}
 use Rattle.sheet.specs.Refusals.{sheetFaults, sheetFault}
 use Rattle.sheet.specs.Square.{placed}
 use Rattle.matching.specs.Matchings.{pairedJoints, aloneCount}
@@ -22,7 +23,7 @@ use Rattle.listing.specs.Claims.{PrintedExample, PhaseOnePrinted, Thirte
 
 pub printed-example : PrintedExample
 unfolding anyBelow allBelow countBelow lowestFrom argmax joined firstFault faultBelow visibleRun allZero labelOk
-    sameBytes repeats labelBad labelsFault entryIn entriesFrom bandIn entryFault only sheetFaults sheetFault
+    sameBytes repeats labelBad labelsFault entryIn entriesFrom bandIn entryFault only extentFault parentsFault sheetFaults sheetFault
     placed pairedJoints aloneCount bestBand worstBand firstOn strikeIf listWaits proposed proposeAll receiveAll
     step runOut someEmptied trial asideBelow noneEmptied cutAt longestList inTwo endOne inOne move ruled concluded
     recordsOf follows workedBy partnerOn pairingOf listsText sheetText pairingText numberLine decimal pairPart

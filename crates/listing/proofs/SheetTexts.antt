@@ -106,7 +106,7 @@ listed-sheet s parts t known =
     let read = known .read in
     let a = accepted s (read .faultless) in
     rw (known .square, read .labels-start, read .n-joints, read .entries-start) record {
-      labelled = record { few = a .few-joints; fit = omega arith; inside = omega (arith, a .exact) };
+      labelled = record { few = a .few-joints; fit = omega arith; inside = omega (arith, a .reaches) };
       text = text-accepted s (read .faultless);
     }
 

@@ -2,12 +2,12 @@
 use mathlib.Core.Path.{_≡_, refl, sym, ap, _∙_}
 use mathlib.Core.Bool.{Bool, true, false}
 use mathlib.Core.List.{List, [], _∷_}
-use mathlib.Core.Logic.{_↔_}
+use mathlib.Core.Logic.{_≢_, _↔_}
 use Prim.Native.Nat.{ℕ, zero, suc, _*_, _≤_}
 use native.Mathlib.Omega.{arith}
-use Rattle.base.proofs.Faults.{fault-stops, fault-passes, last-fault}
+use Rattle.base.proofs.Faults.{fault-behind, fault-passes, last-fault}
 use Rattle.base.specs.Faults.{firstFault}
-use Rattle.sheet.proofs.Numbers.{sheet-most}
+use Rattle.sheet.proofs.Numbers.{sheet-not}
 use Rattle.square.specs.Mutual.{listedPairs}
 use Rattle.sheet.specs.Format.{joints, entriesOf}
 use Rattle.sheet.specs.Refusals.{sheetFault}
@@ -77,22 +77,21 @@ module _ (s : List ℕ) where
         cuts-are = ap (λ (c : Counts). c .cuts) e ∙ said .1;
       }
 
-  choice-refused : (whole : Bool) (cs : List ℕ) (k : ℕ) → 11 ≤ k
+  choice-refused : (whole : Bool) (cs : List ℕ) (k : ℕ) → 11 ≤ k → k ≤ 15
       → (countsOf whole s cs .number ≡ k) ↔ ((sheetFault s ≡ 0) × BytesRefused whole (joints s) (squareOf s) cs k)
-  choice-refused whole cs k big =
+  choice-refused whole cs k big low =
       let o = workedBy whole (joints s) (squareOf s) cs in
       let by = record-refusals whole (joints s) (squareOf s) cs .refused-by k (λ z. omega arith) in
       let number = counts-number (sheetFault s) o in (
         λ h.
             let e : firstFault (sheetFault s ∷ (o .refusal ∷ [])) ≡ k = sym number ∙ h in
-            let r = own (sheetFault s) (o .refusal) k big (sheet-most s) e in
+            let r = own (sheetFault s) (o .refusal) k (sheet-not s k (omega arith) (omega arith)) e in
             (r .0, by .0 (r .1)),
         λ h. number ∙ fault-passes _ _ (h .0) ∙ last-fault _ ∙ by .1 (h .1),
       )
     where
-      own : (f c k : ℕ) → 11 ≤ k → f ≤ 8 → firstFault (f ∷ (c ∷ [])) ≡ k → (f ≡ 0) × (c ≡ k)
-      own zero c k big few e = (refl, sym (fault-passes 0 _ refl ∙ last-fault c) ∙ e)
-      own (suc f) c k big few e = let i : suc f ≡ k = sym (fault-stops (suc f) _ (λ z. omega arith)) ∙ e in absurd (omega arith)
+      own : (f c k : ℕ) → f ≢ k → firstFault (f ∷ (c ∷ [])) ≡ k → (f ≡ 0) × (c ≡ k)
+      own f c k other e = let r = fault-behind f (c ∷ []) k other .0 e in (r .0, sym (last-fault c) ∙ r .1)
 
   pub calls-keep : CallsKeep s
   calls-keep = record {

@@ -27,7 +27,8 @@ use Rattle.blocking.proofs.LowestPair.{blocking-pair-lowest}
 use Rattle.blocking.proofs.SuperStableTest.{is-super-stable-means, super-stable-parts}
 use Rattle.calls.specs.Checks.{checkFaults, checkedAs, checkOf}
 use Rattle.promises.specs.Claims.{CheckKeeps}
-use Rattle.sheet.proofs.Numbers.{sheet-most, sheet-numbers}
+use Rattle.sheet.specs.Claims.{OfSheet}
+use Rattle.sheet.proofs.Numbers.{of-sheet-some, not-of-sheet, sheet-not, sheet-numbers}
 
 -- AN ANSWER by the first refusal and the lowest blocking pair
 checked-refused : (f k : ℕ) (o : Option ℕ) → checkedAs f o ≡ Refused k ↔ ((f ≡ k) × (1 ≤ k))
@@ -57,17 +58,17 @@ ten-is : (b : Bool) → ten b ≡ 10 → b ≡ false
 ten-is true h = absurd (omega arith)
 ten-is false h = refl
 
-ten-only : (b : Bool) (k : ℕ) → 1 ≤ k → k ≤ 9 → ten b ≢ k
-ten-only true k one few h = omega arith
-ten-only false k one few h = omega arith
+ten-only : (b : Bool) (k : ℕ) → OfSheet k → ten b ≢ k
+ten-only true k own h = let some = of-sheet-some k own in omega arith
+ten-only false k own h = not-of-sheet k own (omega arith) (omega arith)
 
 -- a refusal's number
 abbrev Number : ℕ → Type 0
-Number k = 1 ≤ k → ((1 ≤ k) × (k ≤ 6)) ⊎ ((k ≡ 8) ⊎ (k ≡ 10))
+Number k = 1 ≤ k → OfSheet k ⊎ (k ≡ 10)
 
 ten-number : (b : Bool) → Number (ten b)
 ten-number true one = absurd (omega arith)
-ten-number false one = inr (inr refl)
+ten-number false one = inr refl
 
 module _ (s m : List ℕ) where
   abbrev n : ℕ
@@ -94,25 +95,26 @@ module _ (s m : List ℕ) where
       let b = first-answered (checkFaults s m) k in
       (λ h. b .0 (a .0 h), λ h. a .1 (b .1 h))
 
-  numbers : (k : ℕ) → checkOf s m ≡ Refused k → ((1 ≤ k) × (k ≤ 6)) ⊎ ((k ≡ 8) ⊎ (k ≡ 10))
+  numbers : (k : ℕ) → checkOf s m ≡ Refused k → OfSheet k ⊎ (k ≡ 10)
   numbers k h =
       let (e, one) = checked-refused (firstFault (checkFaults s m)) k pair .0 h in
       let any : Number k = rw (← e) (first-holds Number _ _ own (rw (last-fault (ten (isMatching n t m))) (ten-number (isMatching n t m)))) in
       any one
     where
       own : Number (sheetFault s)
-      own one = case (sheet-numbers s) (λ l. inl (one, l)) (λ i. inr (inl i))
+      own one = case (sheet-numbers s) (λ z. absurd (omega arith)) inl
 
-  by-sheet : (k : ℕ) → 1 ≤ k → k ≤ 8 → checkOf s m ≡ Refused k ↔ (sheetFault s ≡ k)
-  by-sheet k one few =
+  by-sheet : (k : ℕ) → OfSheet k → checkOf s m ≡ Refused k ↔ (sheetFault s ≡ k)
+  by-sheet k known =
+      let one = of-sheet-some k known in
       let a = checked-refused (firstFault (checkFaults s m)) k pair in
-      let own = fault-here (sheetFault s) _ k one (λ e. ten-only (isMatching n t m) k one (omega arith) (sym (last-fault _) ∙ e)) in
+      let own = fault-here (sheetFault s) _ k one (λ e. ten-only (isMatching n t m) k known (sym (last-fault _) ∙ e)) in
       (λ h. own .0 (a .0 h .0), λ e. a .1 (own .1 e, one))
 
   by-ten : checkOf s m ≡ Refused 10 ↔ ((sheetFault s ≡ 0) × ((length m ≡ n) × Matching n (at t) (partner m) → ⊥))
   by-ten =
       let a = checked-refused (firstFault (checkFaults s m)) 10 pair in
-      let r = fault-behind (sheetFault s) _ 10 (λ e. omega (arith, sheet-most s)) in (
+      let r = fault-behind (sheetFault s) _ 10 (sheet-not s 10 (omega arith) (omega arith)) in (
         λ h.
             let w = r .0 (a .0 h .0) in
             (w .0, λ x. never _ (is-matching-means n t m .1 x) (ten-is _ (sym (last-fault _) ∙ w .1))),

@@ -5,6 +5,7 @@ pub mod SettleKeeps
 pub mod ShortenKeeps
 pub mod CallsKeep
 pub mod CallsReplayed
+pub mod Alike
 pub mod OneSided
 -- the rows of document 01, by computation
 pub mod StarredRows

@@ -27,6 +27,7 @@ use Rattle.roommates.proofs.EntriesWritten.{bytes-length}
 use Rattle.roommates.proofs.Stages.{one-paired}
 use Rattle.roommates.proofs.Shortenings.{Shortened, left-none, left-lists, arrived-shortened}
 use Rattle.relisting.specs.Written.{PairsStruck, left, bytesOf, countBytes, relisted}
+use Rattle.parents.specs.Claims.{IsSection}
 use Rattle.relisting.specs.Claims.{SheetWith}
 use Rattle.relisting.proofs.EntryBytes as B
 use Rattle.relisting.proofs.Strikes.{shorten-strikes}
@@ -45,7 +46,7 @@ use Rattle.calls.proofs.Answers.{Fair, shortened-number, shortened-says, shorte
 use Rattle.calls.proofs.LawsCalls.{left-fits}
 use Rattle.promises.proofs.Refusals.{no-fault, all-pass, refuses}
 use Rattle.promises.proofs.SettleKeeps.{Over, over-is, counts-number, settle-ran, settle-unrefused, settle-ends, verdictOn, pairsOn}
-use Rattle.sheet.proofs.Numbers.{sheet-most, sheet-numbers}
+use Rattle.sheet.proofs.Numbers.{sheet-not, sheet-numbers}
 use Rattle.sheet.proofs.Sizes.{accepted-sizes}
 
 -- the first two bytes of lists
@@ -155,9 +156,9 @@ module _ (s cs out : List ℕ) where
         let both : 2 + 3 * k ≡ 2 + length (bytesOf (left lists (entriesOf s))) = omega (arith, verdict .1, e, l) in
         omega arith
 
-    back : SheetWith s lists (take (countStart s) s ++ take (2 + 3 * k) (shortenBytes s cs out))
+    back : (own : List ℕ) → IsSection (joints s) own → SheetWith s lists own (take (countStart s) s ++ (take (2 + 3 * k) (shortenBytes s cs out) ++ own))
     unfolding relisted
-    back = rw (lists-over .first) (reads-back s lists (ran .0) struck)
+    back own section = rw (lists-over .first) (reads-back s lists own (ran .0) struck section)
 
     pub shorten-lists : ListsAre s out (shortenBytes s cs out) k
     shorten-lists = lists-are (ended-lists (worked-by-arrives false (joints s) (squareOf s) cs) (verdict .0))
@@ -187,13 +188,13 @@ pub shorten-not-12 : (s cs out : List ℕ) → shortenAnswer s cs out ≢ L.Refu
 shorten-not-12 s cs out h =
     let c = shortensBy (joints s) (squareOf s) cs .refusal in
     let e : firstFault (sheetFault s ∷ (c ∷ [])) ≡ 12
-    = sym (counts-number (sheetFault s) (shortensBy (joints s) (squareOf s) cs)) ∙ shorten-refuses s cs out .by-choice 12 (omega arith) .0 h .1 in
+    = sym (counts-number (sheetFault s) (shortensBy (joints s) (squareOf s) cs)) ∙ shorten-refuses s cs out .by-choice 12 (omega arith) (omega arith) .0 h .1 in
     go (sheetFault s) refl e
   where
     go : (f : ℕ) → sheetFault s ≡ f → firstFault (f ∷ (shortensBy (joints s) (squareOf s) cs .refusal ∷ [])) ≡ 12 → ⊥
     go zero z e =
         not-twelve (joints s) (squareOf s) cs (sym (fault-passes 0 _ refl ∙ last-fault _) ∙ e)
-    go (suc k) z e = let i : suc k ≡ 12 = sym (fault-stops (suc k) _ (λ x. omega arith)) ∙ e in omega (arith, sheet-most s)
+    go (suc k) z e = let i : suc k ≡ 12 = sym (fault-stops (suc k) _ (λ x. omega arith)) ∙ e in sheet-not s 12 (omega arith) (omega arith) (z ∙ i)
 
 -- RECORDS left off earlier
 pub shorten-beginning : (s cs ds out : List ℕ) → isOdd (length cs) ≡ false → shortenedNumber (shortenAnswer s (cs ++ ds) out) ≡ 0 → shortenedNumber (shortenAnswer s cs out) ≡ 0

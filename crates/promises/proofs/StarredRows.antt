@@ -9,6 +9,7 @@ use Rattle.base.proofs.Tables.{_&_}
 use Rattle.sections.specs.Labels.{visibleRun, allZero, labelOk, sameBytes, repeats, labelBad, labelsFault}
 use Rattle.sections.specs.Entries.{entryIn, entriesFrom, bandIn, entryFault}
 use Rattle.square.specs.Mutual.{only}
+use Rattle.parents.specs.Parents.{extentFault, countedFault, parentsFault}
 use Rattle.sheet.specs.Refusals.{sheetFaults, sheetFault}
 use Rattle.sheet.specs.Square.{placed}
 use Rattle.matching.specs.Matchings.{isPaired, isPlaced, isMatching, pairedJoints, aloneCount}
@@ -33,7 +34,7 @@ sheet-g-bytes = refl
 pub starred : AllHold Holds rows
 unfolding isIn bandFrom entriesOnward sheetOf anyBelow allBelow countBelow sumBelow lowestFrom argmax joined firstFault
     faultBelow visibleRun allZero labelOk sameBytes repeats labelBad labelsFault entryIn entriesFrom bandIn
-    entryFault only sheetFaults sheetFault placed isPaired isPlaced isMatching
+    entryFault only extentFault countedFault parentsFault sheetFaults sheetFault placed isPaired isPlaced isMatching
     pairedJoints aloneCount welcomes isApart blocks blocker blockingPair isSuperStable offerOf bestBand
     worstBand firstOn strikeIf listWaits proposed proposeAll receiveAll step runOut someEmptied trial
     asideBelow noneEmptied cutAt longestList inTwo endOne inOne move ruled concluded stepBytes recordsOf stepped
@@ -55,4 +56,5 @@ starred =
     & (refl, refl) & (refl, refl) & (refl, refl) & refl & refl & refl & (refl, refl)
     & (refl, refl) & (refl, refl) & (refl, refl)
     & refl & refl & refl & refl
+    & (refl, refl) & (refl, refl) & (refl, refl) & refl & (refl, refl) & refl & refl & refl & refl
     & record {}

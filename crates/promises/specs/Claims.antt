@@ -10,9 +10,11 @@ use Rattle.base.specs.Claims.{First}
 use Rattle.sections.specs.Entries.{bandIn}
 use Rattle.sections.specs.Claims.{Each}
 use Rattle.square.specs.Mutual.{listedPairs}
+use Rattle.parents.specs.Claims.{IsSection}
 use Rattle.sheet.specs.Format.{joints, rankCount, countStart, entriesOf}
 use Rattle.sheet.specs.Refusals.{sheetFault}
 use Rattle.sheet.specs.Square.{at, squareOf}
+use Rattle.sheet.specs.Claims.{OfSheet}
 use Rattle.blocking.specs.declared.Checked.the-variants as C
 use Rattle.matching.specs.Matchings.{partner, pairCount, pairNumber}
 use Rattle.blocking.specs.Blocking.{isSuperStable}
@@ -27,7 +29,7 @@ use Rattle.roommates.specs.Claims.{Made, LongestList}
 use Rattle.records.specs.Records.{recordsOf, isOdd, workedBy}
 use Rattle.records.specs.Standing.{standing, stepBytes}
 use Rattle.records.specs.Claims.{RecordRefused, BytesRefused}
-use Rattle.relisting.specs.Written.{left, bytesOf, countBytes, without}
+use Rattle.relisting.specs.Written.{left, bytesOf, countBytes, without, withThird}
 use Rattle.relisting.specs.Claims.{SheetWith}
 use Rattle.calls.specs.Checks.{checkFaults, checkOf}
 use Rattle.calls.specs.declared.Phase.{Phase}
@@ -64,8 +66,8 @@ pub record ListsAre (s before after : List ℕ) (k : ℕ) : Type 0 where
   pub how-many : length (left (end .lists) (entriesOf s)) ≡ k
   -- each of them is returned
   pub returned : Each (λ e. 0 < bandIn (entriesOf s) (e .other) (e .joint)) (left (end .lists) (entriesOf s))
-  -- a sheet with the same labels and these bytes as its rankings is accepted, with the lists left as its square
-  pub reads-back : SheetWith s (end .lists) (take (countStart s) s ++ take (2 + 3 * k) after)
+  -- a sheet with the same labels and these bytes as its rankings, and nothing or any parents after them, is accepted, with the lists left as its square
+  pub reads-back : (own : List ℕ) → IsSection (joints s) own → SheetWith s (end .lists) own (take (countStart s) s ++ (take (2 + 3 * k) after ++ own))
   pub at-most : k ≤ 128 * 127
   pub count-first : take 2 after ≡ (k % 256) ∷ ((k / 256) ∷ [])
   pub past : drop (2 + 3 * k) after ≡ drop (2 + 3 * k) before
@@ -80,10 +82,10 @@ pub record CountsAre (whole : Bool) (s cs : List ℕ) : Type 0 where
 -- When a call refuses, number by number and both ways. The sheet's own refusal is f (0 for none), `choice` is the one that the counts name beside the working,
 -- and `need` bytes are due in a buffer of `room`.
 pub record Refuses (f choice need room : ℕ) (Refused : ℕ → Type 0) : Type 0 where
-  pub numbers : (k : ℕ) → Refused k → ((1 ≤ k) × (k ≤ 6)) ⊎ (((8 ≤ k) × (k ≤ 9)) ⊎ ((11 ≤ k) × (k ≤ 15)))
-  pub by-sheet : (k : ℕ) → 1 ≤ k → k ≤ 8 → Refused k ↔ (f ≡ k)
+  pub numbers : (k : ℕ) → Refused k → OfSheet k ⊎ ((k ≡ 9) ⊎ ((11 ≤ k) × (k ≤ 15)))
+  pub by-sheet : (k : ℕ) → OfSheet k → Refused k ↔ (f ≡ k)
   pub by-buffer : Refused 9 ↔ ((f ≡ 0) × (room < need))
-  pub by-choice : (k : ℕ) → 11 ≤ k → Refused k ↔ ((need ≤ room) × (choice ≡ k))
+  pub by-choice : (k : ℕ) → 11 ≤ k → k ≤ 15 → Refused k ↔ ((need ≤ room) × (choice ≡ k))
 
 pub record CallsKeep (s : List ℕ) : Type 0 where
   -- SETTLE. A pairing is super-stable. After none every matching is blocked, and none and a refusal write nothing.
@@ -118,7 +120,7 @@ pub record CallsKeep (s : List ℕ) : Type 0 where
   pub settle-beginning : (cs ds out : List ℕ) → isOdd (length cs) ≡ false → settledNumber (settleAnswer s (cs ++ ds) out) ≡ 0 → settledNumber (settleAnswer s cs out) ≡ 0
   pub shorten-beginning : (cs ds out : List ℕ) → isOdd (length cs) ≡ false → shortenedNumber (shortenAnswer s (cs ++ ds) out) ≡ 0 → shortenedNumber (shortenAnswer s cs out) ≡ 0
   -- 11 to 15: an odd number of bytes, or some record that may not come after the ones before it, for the reason that the number says
-  pub choice-refused : (whole : Bool) (cs : List ℕ) (k : ℕ) → 11 ≤ k
+  pub choice-refused : (whole : Bool) (cs : List ℕ) (k : ℕ) → 11 ≤ k → k ≤ 15
       → (countsOf whole s cs .number ≡ k) ↔ ((sheetFault s ≡ 0) × BytesRefused whole (joints s) (squareOf s) cs k)
   -- COUNTS, beside refused choices too: of settle's working (true) and of shorten's (false)
   pub counts-are : (whole : Bool) (cs : List ℕ) → sheetFault s ≡ 0 → CountsAre whole s cs
@@ -165,9 +167,9 @@ LongestIsCut = (s cs : List ℕ) (w : Work) → sheetFault s ≡ 0 → Made true
 -- CHECK, for every sheet s and offered pairing m.
 pub record CheckKeeps (s m : List ℕ) : Type 0 where
   pub check-first : (k : ℕ) → checkOf s m ≡ C.Refused k ↔ First k (checkFaults s m)
-  pub check-numbers : (k : ℕ) → checkOf s m ≡ C.Refused k → ((1 ≤ k) × (k ≤ 6)) ⊎ ((k ≡ 8) ⊎ (k ≡ 10))
+  pub check-numbers : (k : ℕ) → checkOf s m ≡ C.Refused k → OfSheet k ⊎ (k ≡ 10)
   -- a refused sheet hands on its number; 10: the sheet is accepted, and what is offered is no matching
-  pub check-sheet : (k : ℕ) → 1 ≤ k → k ≤ 8 → checkOf s m ≡ C.Refused k ↔ (sheetFault s ≡ k)
+  pub check-sheet : (k : ℕ) → OfSheet k → checkOf s m ≡ C.Refused k ↔ (sheetFault s ≡ k)
   pub check-ten : checkOf s m ≡ C.Refused 10
       ↔ ((sheetFault s ≡ 0) × ((length m ≡ joints s) × Matching (joints s) (at (squareOf s)) (partner m) → ⊥))
   -- holds: the sheet is accepted, and what is offered is super-stable
@@ -179,14 +181,20 @@ pub record CheckKeeps (s m : List ℕ) : Type 0 where
       × ((length m ≡ joints s) × Matching (joints s) (at (squareOf s)) (partner m))
       × LowestBlocking (joints s) (at (squareOf s)) (partner m) k
 
+-- TWO SHEETS that settle, the counts and check answer alike.
+pub record SameAnswers (s r : List ℕ) : Type 0 where
+  pub settle-alike : (cs out : List ℕ) → (settleAnswer s cs out ≡ settleAnswer r cs out) × (settleBytes s cs out ≡ settleBytes r cs out)
+  pub counts-alike : (whole : Bool) (cs : List ℕ) → countsOf whole s cs ≡ countsOf whole r cs
+  pub check-alike : (m : List ℕ) → checkOf s m ≡ checkOf r m
+
+abbrev pub ShortenedAlike : List ℕ → List ℕ → List ℕ → List ℕ → Type 0
+ShortenedAlike s r cs out = (shortenAnswer s cs out ≡ shortenAnswer r cs out) × (shortenBytes s cs out ≡ shortenBytes r cs out)
+
 -- ONE-SIDED ENTRIES, whose candidate does not list their joint, count as unlisted everywhere.
 pub record OneSided (s : List ℕ) : Type 0 where
   -- The sheet without them gets the same answers; for shorten where the buffer is long enough for s, since its size still goes by m.
-  pub settle-alike : (cs out : List ℕ) → (settleAnswer s cs out ≡ settleAnswer (without s) cs out) × (settleBytes s cs out ≡ settleBytes (without s) cs out)
-  pub shorten-alike : (cs out : List ℕ) → 2 + 3 * rankCount s ≤ length out
-      → (shortenAnswer s cs out ≡ shortenAnswer (without s) cs out) × (shortenBytes s cs out ≡ shortenBytes (without s) cs out)
-  pub counts-alike : (whole : Bool) (cs : List ℕ) → countsOf whole s cs ≡ countsOf whole (without s) cs
-  pub check-alike : (m : List ℕ) → checkOf s m ≡ checkOf (without s) m
+  pub alike : SameAnswers s (without s)
+  pub shorten-alike : (cs out : List ℕ) → 2 + 3 * rankCount s ≤ length out → ShortenedAlike s (without s) cs out
   -- An offered pairing in which one of two partners has no entry for the other is refused by 10.
   pub offered-ten : (m : List ℕ) (a : ℕ) → a < joints s → partner m a ≢ 255
       → (bandIn (entriesOf s) a (partner m a) ≡ 0) ⊎ (bandIn (entriesOf s) (partner m a) a ≡ 0) → checkOf s m ≡ C.Refused 10
@@ -196,3 +204,15 @@ pub record OneSided (s : List ℕ) : Type 0 where
 
 abbrev pub Unlisted : Type 0
 Unlisted = (s : List ℕ) → sheetFault s ≡ 0 → OneSided s
+
+-- PARENTS play no part: two accepted sheets with the same number of joints and the same rankings, with or without parents, get the same answers.
+pub record ParentsUnseen (s r : List ℕ) : Type 0 where
+  pub alike : SameAnswers s r
+  pub shorten-alike : (cs out : List ℕ) → ShortenedAlike s r cs out
+
+abbrev pub SameRankings : Type 0
+SameRankings = (s r : List ℕ) → sheetFault s ≡ 0 → sheetFault r ≡ 0 → joints s ≡ joints r → entriesOf s ≡ entriesOf r → ParentsUnseen s r
+
+-- so they may be left out, put in or changed
+abbrev pub ParentsChanged : Type 0
+ParentsChanged = (s own : List ℕ) → sheetFault s ≡ 0 → IsSection (joints s) own → (sheetFault (withThird s own) ≡ 0) × ParentsUnseen s (withThird s own)

@@ -234,4 +234,15 @@ rows =
     ∷ check-row sheet-one-sided (2 ∷ 255 ∷ 0 ∷ []) (C.Refused 10)
     ∷ check-row sheet-one-sided (1 ∷ 0 ∷ 255 ∷ []) C.Holds
     ∷ check-row sheet-one-sided (255 ∷ 255 ∷ 255 ∷ []) (C.Blocked 0)
+    -- parents: row g is settled as without them, and no joint may have none; a parent equal to its joint, one that is higher, another count than n,
+    -- before 9 and 10 and after 6; the section cut short, and bytes after it
+    ∷ settle-row (sheet-g ++ (4 ∷ 255 ∷ 0 ∷ 255 ∷ 2 ∷ [])) [] (buffer 6) (S.Ended (E.Paired 2)) (1 ∷ 0 ∷ 3 ∷ 2 ∷ 9 ∷ 9 ∷ [])
+    ∷ settle-row (sheet-a ++ (0 ∷ [])) [] (buffer 2) (S.Ended (E.Paired 0)) (buffer 2)
+    ∷ settle-row (sheet-c ++ (2 ∷ 255 ∷ 1 ∷ [])) [] (buffer 1) (S.Refused 18) (buffer 1)
+    ∷ counts-row true (sheet-c ++ (2 ∷ 1 ∷ 255 ∷ [])) [] 18 0 0
+    ∷ shorten-row (sheet-c ++ (1 ∷ 255 ∷ [])) (0 ∷ []) (buffer 7) (L.Refused 18) (buffer 7)
+    ∷ check-row (sheet-c ++ (3 ∷ 255 ∷ 0 ∷ 1 ∷ [])) [] (C.Refused 18)
+    ∷ check-row (2 ∷ letters 2 ++ (1 ∷ 0 ∷ entry 1 0 128 (1 ∷ 255 ∷ []))) [] (C.Refused 5)
+    ∷ check-row (sheet-c ++ (2 ∷ 255 ∷ [])) [] (C.Refused 1)
+    ∷ check-row (sheet-c ++ (2 ∷ 255 ∷ 0 ∷ 0 ∷ [])) [] (C.Refused 8)
     ∷ []

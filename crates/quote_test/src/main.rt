@@ -139,19 +139,20 @@ fn place_of(answer: u64) -> usize {
     }
 }
 
-// The size of a sheet from which a byte is cut (damage 0), or after which there is one more (1). None here has more than 300 bytes.
+// The size of a sheet from which a byte is cut (damage 0), or after which there are two zeros (1): a count of no parents, and a byte after
+// them. None here has more than 300 bytes.
 fn damaged_size(size: usize, damage: u32) -> usize
     ensures { λ r. ⌜ r ≤ 384 ⌝ }
 {
     if size == 0 {
         return 0;
     }
-    if 383 < size {
+    if 382 < size {
         return 0;
     }
     match damage {
         0 => size - 1,
-        1 => size + 1,
+        1 => size + 2,
         _ => size,
     }
 }

@@ -1,6 +1,6 @@
 -- The bytes of entries, read as a part of a sheet, are the entries.
 use mathlib.Core.Path.{_≡_, refl, _∙_}
-use mathlib.Core.List.{List, [], _∷_}
+use mathlib.Core.List.{List, [], _∷_, _++_}
 use Prim.Native.Nat.{ℕ, zero, suc, _+_, _*_, _<_}
 use native.Mathlib.Omega.{arith}
 use lib.ListN.{length}
@@ -24,14 +24,16 @@ entry-next x y z l j =
     let e₂ : 3 * suc j + 2 ≡ suc (suc (suc (3 * j + 2))) = omega arith in
     rw (e₁, e₂, e)
 
-pub byte-entry : (es : List Entry) (j : ℕ) → j < length es → entryIn (bytesOf es) j ≡ entryOf es j
-unfolding bytesOf entryIn
-byte-entry [] j l = absurd (omega arith)
-byte-entry (e ∷ es) zero l = refl
-byte-entry (e ∷ es) (suc j) l = entry-next _ _ _ (bytesOf es) j ∙ byte-entry es j (omega arith)
+-- whatever follows them
+module _ (rest : List ℕ) where
+  pub byte-entry : (es : List Entry) (j : ℕ) → j < length es → entryIn (bytesOf es ++ rest) j ≡ entryOf es j
+  unfolding bytesOf entryIn
+  byte-entry [] j l = absurd (omega arith)
+  byte-entry (e ∷ es) zero l = refl
+  byte-entry (e ∷ es) (suc j) l = entry-next _ _ _ (bytesOf es ++ rest) j ∙ byte-entry es j (omega arith)
 
-pub entries-back : (es : List Entry) → entriesFrom (length es) 0 (bytesOf es) ≡ es
-entries-back es =
-    let long = length-entries (length es) 0 (bytesOf es) in
-    ext-getD (entry 0 0 0) _ es long
-    (λ i l. let k : i < length es = rw long at l in entry-at (length es) (bytesOf es) i k ∙ byte-entry es i k)
+  pub entries-back : (es : List Entry) → entriesFrom (length es) 0 (bytesOf es ++ rest) ≡ es
+  entries-back es =
+      let long = length-entries (length es) 0 (bytesOf es ++ rest) in
+      ext-getD (entry 0 0 0) _ es long
+      (λ i l. let k : i < length es = rw long at l in entry-at (length es) (bytesOf es ++ rest) i k ∙ byte-entry es i k)

@@ -1,119 +1,85 @@
--- An accepted sheet with other rankings: entries that ascend and are sound. It is accepted, and has its labels and these entries.
-use mathlib.Core.Path.{_≡_, sym, ap, _∙_}
-use mathlib.Core.List.{List, _++_}
-use mathlib.Core.Logic.{_≢_}
-use Prim.Native.Nat.{ℕ, _+_, _*_, _/_, _%_, _≤_, _<_}
+-- An accepted sheet with other rankings, entries that ascend and are sound, and a third section: it is accepted, and has its labels and these entries.
+use mathlib.Core.Path.{_≡_, refl, ap, _∙_}
+use mathlib.Core.List.{List, _∷_, _++_}
+use Prim.Native.Nat.{ℕ, suc, _+_, _*_, _/_, _%_, _≤_, _<_}
 use native.Mathlib.Nat.{add-zero}
 use native.Mathlib.Omega.{arith}
-use lib.ListN.{length, take, drop, getD, length-append, length-drop, take-append-drop, List·getD-append}
-use lib.Seq.{length-take-le, getD-take, getD-append-add, drop-append-add, drop-drop, take-append-le, drop-append-le}
+use lib.ListN.{length, drop, getD, length-append}
+use lib.Seq.{getD-append-add, drop-append-add, drop-at}
 use Rattle.sections.specs.declared.Entry.{Entry}
-use Rattle.sections.specs.Labels.{labelWidth, labelIn, labelsFault}
 use Rattle.sections.specs.Entries.{entriesFault}
-use Rattle.sections.specs.Claims.{GoodLabels, GoodEntries, Sound, Each, Ascending}
-use Rattle.sections.proofs.LabelRule.{labels-rule}
+use Rattle.sections.specs.Claims.{GoodEntries, Sound, Each, Ascending}
 use Rattle.sections.proofs.EntryFaults.{entries-rule}
-use Rattle.sheet.specs.Format.{joints, labelsPart, labelOf, countStart, rankCount, rankingsPart, sheetEnd, entriesOf}
+use Rattle.parents.specs.Claims.{IsSection}
+use Rattle.sheet.specs.Format.{joints, labelOf, countStart, rankCount, rankingsPart, rankEnd, entriesOf, third}
 use Rattle.sheet.specs.Refusals.{sheetFault}
 use Rattle.sheet.proofs.Accepted.{Accepted}
-use Rattle.sheet.proofs.SheetLaws.{all-there, faultless}
 use Rattle.relisting.specs.Written.{bytesOf, countBytes, ranked}
+use Rattle.relisting.proofs.Beginnings.{front, front-length, begun-joints, past-front, begun-label, begun-accepted}
 use Rattle.relisting.proofs.EntryBytes.{bytes-length, byte-entry, entries-back}
 
--- the bytes of s before its rankings
-abbrev front : List ℕ → List ℕ
-front s = take (countStart s) s
+module _ (s : List ℕ) (x : Accepted s) (es : List Entry) (own : List ℕ) where
+  -- what stands after the front
+  abbrev rest : List ℕ
+  rest = countBytes (length es) ++ (bytesOf es ++ own)
 
--- bytes within the first part of two are its own
-within : (k w : ℕ) (p l : List ℕ) → k + w ≤ length p → take w (drop k (p ++ l)) ≡ take w (drop k p)
-within k w p l h =
-    let long = length-drop k p in
-    rw (drop-append-le k p l (omega arith)) (take-append-le w (drop k p) l (omega arith))
-
--- a label of a sheet, as the labels' part has it
-part-label : (s : List ℕ) (i : ℕ) → labelIn (labelsPart s) i ≡ labelOf s i
-part-label s i =
-    let e : 1 + (0 + labelWidth * i) ≡ 1 + labelWidth * i = omega arith in
-    rw (drop-drop (0 + labelWidth * i) 1 s, e)
-
-module _ (s : List ℕ) (x : Accepted s) (es : List Entry) where
-  front-length : length (front s) ≡ countStart s
-  front-length = let e = x .exact in length-take-le (countStart s) s (omega arith)
-
-  pub ranked-joints : joints (ranked s es) ≡ joints s
+  pub ranked-joints : joints (ranked s es own) ≡ joints s
   unfolding ranked
-  ranked-joints =
-      let e = front-length in
-      List·getD-append (front s) (countBytes (length es) ++ bytesOf es) 0 0 (omega arith) ∙ getD-take (countStart s) s 0 0 (omega arith)
+  ranked-joints = begun-joints s x rest
 
-  -- what stands i bytes after the front
-  past-front : (i : ℕ) → countStart (ranked s es) + i ≡ length (front s) + i
-  past-front i = let e = front-length in let n = ranked-joints in omega arith
-
-  past-byte : (i : ℕ) → getD (ranked s es) (countStart (ranked s es) + i) 0 ≡ getD (countBytes (length es) ++ bytesOf es) i 0
+  pub ranked-label : (i : ℕ) → i < joints s → labelOf (ranked s es own) i ≡ labelOf s i
   unfolding ranked
-  past-byte i = rw (past-front i) (getD-append-add (front s) (countBytes (length es) ++ bytesOf es) i 0)
+  ranked-label = begun-label s x rest
 
-  pub ranked-count : rankCount (ranked s es) ≡ length es
+  past-byte : (i : ℕ) → getD (ranked s es own) (countStart (ranked s es own) + i) 0 ≡ getD rest i 0
+  unfolding ranked
+  past-byte i = rw (past-front s x rest i) (getD-append-add (front s) rest i 0)
+
+  pub ranked-count : rankCount (ranked s es own) ≡ length es
   ranked-count =
-      let low : getD (ranked s es) (countStart (ranked s es)) 0 ≡ length es % 256 = rw add-zero at (past-byte 0) in
-      let high : getD (ranked s es) (countStart (ranked s es) + 1) 0 ≡ length es / 256 = past-byte 1 in
+      let low : getD (ranked s es own) (countStart (ranked s es own)) 0 ≡ length es % 256 = rw add-zero at (past-byte 0) in
+      let high : getD (ranked s es own) (countStart (ranked s es own) + 1) 0 ≡ length es / 256 = past-byte 1 in
       omega arith
 
-  ranked-part : rankingsPart (ranked s es) ≡ bytesOf es
+  ranked-part : rankingsPart (ranked s es own) ≡ bytesOf es ++ own
   unfolding ranked
-  ranked-part = rw (past-front 2) (drop-append-add (front s) (countBytes (length es) ++ bytesOf es) 2)
+  ranked-part = rw (past-front s x rest 2) (drop-append-add (front s) rest 2)
 
-  pub ranked-entries : entriesOf (ranked s es) ≡ es
-  ranked-entries = rw (ranked-count, ranked-part) (entries-back es)
+  pub ranked-entries : entriesOf (ranked s es own) ≡ es
+  ranked-entries = rw (ranked-count, ranked-part) (entries-back own es)
 
-  ranked-exact : length (ranked s es) ≡ sheetEnd (ranked s es)
+  -- the entries end where the third section begins
+  ranked-end : rankEnd (ranked s es own) ≡ countStart (ranked s es own) + (2 + length (bytesOf es))
+  ranked-end = let count = ranked-count in let three = bytes-length es in omega arith
+
+  pub ranked-third : third (ranked s es own) ≡ own
   unfolding ranked
-  ranked-exact =
-      let whole = length-append (front s) (countBytes (length es) ++ bytesOf es) in
-      let three = bytes-length es in
-      let past = past-front 2 in
-      let k = ranked-count in
+  ranked-third =
+      rw (ranked-end, past-front s x rest (2 + length (bytesOf es)))
+      (drop-append-add (front s) rest (2 + length (bytesOf es)) ∙ after (length es % 256) (length es / 256) (bytesOf es))
+    where
+      after : (a b : ℕ) (l : List ℕ) → drop (2 + length l) (a ∷ b ∷ (l ++ own)) ≡ own
+      after a b l = let e : 2 + length l ≡ suc (suc (length l)) = omega arith in rw e (drop-at l own (length l) refl)
+
+  ranked-reaches : rankEnd (ranked s es own) ≤ length (ranked s es own)
+  unfolding ranked
+  ranked-reaches =
+      let whole = length-append (front s) rest in
+      let more = length-append (bytesOf es) own in
+      let past = past-front s x rest (2 + length (bytesOf es)) in
+      let end = ranked-end in
       omega arith
-
-  -- the labels are those of s
-  pub ranked-label : (i : ℕ) → i < joints s → labelOf (ranked s es) i ≡ labelOf s i
-  unfolding ranked
-  ranked-label i l =
-      let e = front-length in
-      let h : 1 + labelWidth * i + labelWidth ≤ length (front s) = omega arith in
-      within (1 + labelWidth * i) labelWidth (front s) _ h
-      ∙ sym (within (1 + labelWidth * i) labelWidth (front s) (drop (countStart s) s) h)
-      ∙ ap (λ (l : List ℕ). labelOf l i) (take-append-drop (countStart s) s)
-
-  -- .. as the reader's part has them
-  same-label : (i : ℕ) → i < joints s → labelIn (labelsPart (ranked s es)) i ≡ labelIn (labelsPart s) i
-  same-label i l = part-label (ranked s es) i ∙ ranked-label i l ∙ sym (part-label s i)
-
-  labels-good : GoodLabels (joints s) (labelsPart (ranked s es))
-  labels-good = record {
-    long = let e = ranked-exact in let n = ranked-joints in let d = length-drop 1 (ranked s es) in omega arith;
-    each = λ i l. rw (same-label i l) (x .labels .each i l);
-    differ = λ i j k l. rw (same-label i l, same-label j (omega arith)) (x .labels .differ i j k l);
-  }
-
-  ranked-labels : labelsFault (joints (ranked s es)) (labelsPart (ranked s es)) ≡ 0
-  ranked-labels = rw ranked-joints (labels-rule (joints s) (labelsPart (ranked s es)) .1 labels-good)
 
   module _ (each : Each (Sound (joints s)) es) (ascending : Ascending es) where
-    good-entries : GoodEntries (length es) (joints s) (bytesOf es)
+    good-entries : GoodEntries (length es) (joints s) (bytesOf es ++ own)
     good-entries = record {
-      each = λ j l. rw (byte-entry es j l) (each j l);
-      ascending = λ i j k l. rw (byte-entry es i (omega arith), byte-entry es j l) (ascending i j k l);
+      each = λ j l. rw (byte-entry own es j l) (each j l);
+      ascending = λ i j k l. rw (byte-entry own es i (omega arith), byte-entry own es j l) (ascending i j k l);
     }
 
-    ranked-clean : entriesFault (rankCount (ranked s es)) (joints (ranked s es)) (rankingsPart (ranked s es)) ≡ 0
-    ranked-clean = rw (ranked-part, ranked-count, ranked-joints) (entries-rule (length es) (joints s) (bytesOf es) .1 good-entries)
+    ranked-clean : entriesFault (rankCount (ranked s es own)) (joints (ranked s es own)) (rankingsPart (ranked s es own)) ≡ 0
+    ranked-clean = rw (ranked-part, ranked-count, ranked-joints) (entries-rule (length es) (joints s) (bytesOf es ++ own) .1 good-entries)
 
-    pub ranked-accepted : sheetFault (ranked s es) ≡ 0
-    ranked-accepted =
-        let exact = ranked-exact in
-        let few : joints (ranked s es) ≤ 128 = rw ranked-joints (x .few-joints) in
-        let some : length (ranked s es) ≢ 0 = λ z. omega arith in
-        let lie = all-there (ranked s es) some few ranked-labels (omega arith) (omega arith) (omega arith) in
-        faultless (ranked s es) lie ranked-clean
+    pub ranked-accepted : IsSection (joints s) own → sheetFault (ranked s es own) ≡ 0
+    unfolding ranked
+    ranked-accepted section = begun-accepted s x rest (ranked s es own) refl ranked-reaches ranked-clean (rw ranked-third section)

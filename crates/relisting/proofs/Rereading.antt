@@ -15,18 +15,18 @@ use Rattle.square.specs.Mutual.{returned, mutualEntries}
 use Rattle.square.proofs.Only.{only-passes, only-agree}
 use Rattle.square.proofs.Bands.{own-listed}
 use Rattle.square.proofs.MutualSquare.{both-listed, mutual-listed}
-use Rattle.sheet.specs.Format.{joints, countStart, entriesOf}
+use Rattle.sheet.specs.Format.{joints, countStart, entriesOf, third}
 use Rattle.sheet.specs.Refusals.{sheetFault}
 use Rattle.sheet.specs.Square.{at, squareOf, SquarePromise}
 use Rattle.sheet.specs.Promise.{MutualListing}
-use Rattle.sheet.proofs.Accepted.{accepted}
+use Rattle.sheet.proofs.Accepted.{accepted, accepted-parents}
 use Rattle.sheet.proofs.PromiseKept.{accepted-entries, accepted-square, square-is-mutual, square-is-entries}
 use Rattle.roommates.specs.Lists.{Square, row}
 use Rattle.relisting.specs.Written.{PairsStruck, left, relisted, ranked, without}
 use Rattle.relisting.specs.Claims.{ReadsBack, WrittenReturned, WithoutSame}
 use Rattle.relisting.proofs.Strikes.{pairs-below}
 use Rattle.relisting.proofs.LeftWritten.{left-on, on-count, on-written}
-use Rattle.relisting.proofs.OtherRankings.{ranked-joints, ranked-label, ranked-count, ranked-entries, ranked-accepted}
+use Rattle.relisting.proofs.OtherRankings.{ranked-joints, ranked-label, ranked-count, ranked-entries, ranked-third, ranked-accepted}
 
 -- squares of 128 rows of 128 with the same places are the same
 same-places : {n : ℕ} {s t u : Square} → SquarePromise n t → PairsStruck s u → ((a b : ℕ) → at t a b ≡ at u a b) → t ≡ u
@@ -36,27 +36,29 @@ same-places {n} {s} {t} {u} p r h =
     (λ a l. let k : a < 128 = omega arith in
     ext-getD 0 (row t a) (row u a) (p .row a k ∙ sym (r .row-length a k)) (λ b m. h a b))
 
-relisted-is : (s : List ℕ) (u : Square) → sheetFault s ≡ 0 → PairsStruck (squareOf s) u → relisted s u ≡ ranked s (left u (entriesOf s))
+relisted-is : (s : List ℕ) (u : Square) (own : List ℕ) → sheetFault s ≡ 0 → PairsStruck (squareOf s) u
+    → relisted s u own ≡ ranked s (left u (entriesOf s)) own
 unfolding relisted ranked
-relisted-is s u h r = ap (λ (l : List ℕ). take (countStart s) s ++ l) (on-written (left-on s u h r))
+relisted-is s u own h r = ap (λ (l : List ℕ). take (countStart s) s ++ (l ++ own)) (on-written (left-on s u h r))
 
 pub reads-back : ReadsBack
-reads-back s u h r =
+reads-back s u own h r section =
     let es : List Entry = left u (entriesOf s) in
     let x = accepted s h in
     let on = left-on s u h r in
     let both = pairs-below (accepted-square s h) r .both in
     let mutuals : MutualListing es = λ a b l. rw (← on .bands b a) (both a b (rw (← on .bands a b) at l)) in
-    let good : sheetFault (ranked s es) ≡ 0 = ranked-accepted s x es (on .each) (on .ascending) in
-    let square : squareOf (ranked s es) ≡ u = same-places (accepted-square (ranked s es) good) r
-    (λ a b. square-is-entries (ranked s es) good (rw (ranked-entries s x es) mutuals) a b ∙ rw (ranked-entries s x es) (sym (on .bands a b))) in
-    rw (relisted-is s u h r) record {
+    let good : sheetFault (ranked s es own) ≡ 0 = ranked-accepted s x es own (on .each) (on .ascending) section in
+    let square : squareOf (ranked s es own) ≡ u = same-places (accepted-square (ranked s es own) good) r
+    (λ a b. square-is-entries (ranked s es own) good (rw (ranked-entries s x es own) mutuals) a b ∙ rw (ranked-entries s x es own) (sym (on .bands a b))) in
+    rw (relisted-is s u own h r) record {
       accepted = good;
-      same-joints = ranked-joints s x es;
-      same-labels = ranked-label s x es;
-      count-left = ranked-count s x es ∙ sym (on-count on);
-      entries-left = ranked-entries s x es;
+      same-joints = ranked-joints s x es own;
+      same-labels = ranked-label s x es own;
+      count-left = ranked-count s x es own ∙ sym (on-count on);
+      entries-left = ranked-entries s x es own;
       same-square = square;
+      third-is = ranked-third s x es own;
     }
 
 pub written-returned : WrittenReturned
@@ -83,5 +85,6 @@ pub without-same : WithoutSame
 without-same s h =
     let x = accepted s h in
     let r = nothing-struck (accepted-square s h) in
-    let same : relisted s (squareOf s) ≡ without s = relisted-is s (squareOf s) h r ∙ ap (ranked s) (left-mutual s h) in
-    (rw same at (reads-back s (squareOf s) h r), ranked-entries s x (mutualEntries (entriesOf s)))
+    let same : relisted s (squareOf s) (third s) ≡ without s =
+    relisted-is s (squareOf s) (third s) h r ∙ ap (λ (es : List Entry). ranked s es (third s)) (left-mutual s h) in
+    (rw same at (reads-back s (squareOf s) (third s) h r (accepted-parents s h)), ranked-entries s x (mutualEntries (entriesOf s)) (third s))

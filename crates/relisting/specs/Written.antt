@@ -7,7 +7,7 @@ use lib.Dec.{ltb}
 use lib.ListN.{length, take}
 use Rattle.sections.specs.declared.Entry.{Entry}
 use Rattle.square.specs.Mutual.{only, mutualEntries}
-use Rattle.sheet.specs.Format.{joints, countStart, entriesOf}
+use Rattle.sheet.specs.Format.{joints, countStart, rankEnd, entriesOf, third}
 use Rattle.sheet.specs.Square.{at}
 use Rattle.roommates.specs.Lists.{Square, row}
 use Rattle.roommates.specs.Left.{listBytes}
@@ -31,13 +31,18 @@ bytesOf (e ∷ es) = e .joint ∷ (e .other ∷ (e .band ∷ bytesOf es))
 abbrev pub countBytes : ℕ → List ℕ
 countBytes k = (k % 256) ∷ ((k / 256) ∷ [])
 
--- the sheet s with the lists u as its rankings: its joints and labels, then what shorten writes
-unfoldable pub relisted : List ℕ → Square → List ℕ
-relisted s u = take (countStart s) s ++ listBytes (joints s) u
+-- the sheet s with the lists u as its rankings: its joints and labels, then what shorten writes, then a third section or nothing
+unfoldable pub relisted : List ℕ → Square → List ℕ → List ℕ
+relisted s u third = take (countStart s) s ++ (listBytes (joints s) u ++ third)
 
--- the sheet s with other entries as its rankings; and with its mutual listings alone, so without its one-sided entries
-unfoldable pub ranked : List ℕ → List Entry → List ℕ
-ranked s es = take (countStart s) s ++ (countBytes (length es) ++ bytesOf es)
+-- the sheet s with other entries as its rankings, and a third section or nothing; and with its mutual listings alone, so without its one-sided
+-- entries, and its own third section
+unfoldable pub ranked : List ℕ → List Entry → List ℕ → List ℕ
+ranked s es third = take (countStart s) s ++ (countBytes (length es) ++ (bytesOf es ++ third))
 
 abbrev pub without : List ℕ → List ℕ
-without s = ranked s (mutualEntries (entriesOf s))
+without s = ranked s (mutualEntries (entriesOf s)) (third s)
+
+-- the sheet s up to its rankings' end, and another third section or nothing
+unfoldable pub withThird : List ℕ → List ℕ → List ℕ
+withThird s third = take (rankEnd s) s ++ third

@@ -12,6 +12,9 @@ pub refused-with : (size f : ℕ) → (f ≡ 0 → ⊥) → Refused f ≡ sectio
 refused-with size zero h = absurd (h refl)
 refused-with size (suc f) h = refl
 
+pub refused-by : (size f k : ℕ) → f ≡ k → (k ≡ 0 → ⊥) → Refused k ≡ sectionOr size f
+refused-by size f k e h = rw e (refused-with size k h)
+
 pub read-whole : (size f : ℕ) → f ≡ 0 → Read size ≡ sectionOr size f
 read-whole size zero h = refl
 read-whole size (suc f) h = absurd (omega arith)

@@ -8,7 +8,7 @@ use Rattle.base.proofs.Cases.{unlike}
 use Rattle.sheet.specs.declared.Parts.{Parts}
 use Rattle.sheet.specs.declared.Reading.{Reading}
 use Rattle.sheet.specs.declared.Reading.the-variants.{Accepted, Refused}
-use Rattle.sheet.specs.Format.{joints, rankCount, labelsStart, rankStart}
+use Rattle.sheet.specs.Format.{joints, rankCount, labelsStart, rankStart, rankEnd}
 use Rattle.sheet.specs.Refusals.{sheetFault}
 use Rattle.sheet.specs.Square.{squareOf, SquarePromise}
 use Rattle.sheet.specs.Readings.{partsOf, readingOr, readingOf, squareIn}
@@ -22,6 +22,7 @@ pub record ReadWith (s : List ℕ) (f : ℕ) (parts : Parts) : Type 0 where
   pub m-entries : parts .entries ≡ rankCount s
   pub labels-start : parts .labels ≡ labelsStart
   pub entries-start : parts .rankings ≡ rankStart s
+  pub third-start : parts .parents ≡ rankEnd s
 
 parts-with : (s : List ℕ) (parts : Parts) → partsOf s ≡ parts → ReadWith s 0 parts
 parts-with s parts e = record {
@@ -31,6 +32,7 @@ parts-with s parts e = record {
   m-entries = sym (ap (λ (p : Parts). p .entries) e);
   labels-start = sym (ap (λ (p : Parts). p .labels) e);
   entries-start = sym (ap (λ (p : Parts). p .rankings) e);
+  third-start = sym (ap (λ (p : Parts). p .parents) e);
 }
 
 pub read-with : (s : List ℕ) (f : ℕ) (parts : Parts) → readingOr s f ≡ Accepted parts → ReadWith s f parts

@@ -6,11 +6,12 @@ use native.Mathlib.Omega.{arith}
 use lib.ListN.{length, take, drop}
 use borrow.Author.Tests.{eq-eqb, ne-eqb, lt-ltb, le-ltb}
 use Rattle.base.specs.Faults.{firstFault}
-use Rattle.base.proofs.Faults.{fault-stops}
+use Rattle.base.proofs.Faults.{fault-stops, fault-passes, last-fault}
 use Rattle.sections.specs.Labels.{labelsFault}
 use Rattle.sections.specs.Entries.{entriesFault}
+use Rattle.parents.specs.Parents.{extentFault, parentsFault}
 use Rattle.sheet.specs.declared.Reading.the-variants.{Accepted, Refused}
-use Rattle.sheet.specs.Format.{joints, labelsStart, labelsPart, rankCount, rankStart, rankingsPart, sheetEnd}
+use Rattle.sheet.specs.Format.{joints, labelsStart, labelsPart, rankCount, rankStart, rankingsPart, rankEnd, third}
 use Rattle.sheet.specs.Refusals.{sheetFaults, sheetFault, extentsFault}
 use Rattle.sheet.specs.Square.{squareOf}
 use Rattle.sheet.specs.Readings.{partsOf, readingOr, readingOf, squareIn}
@@ -22,9 +23,9 @@ pub refused-as : (s : List ℕ) (f k : ℕ) → f ≡ k → (k ≡ 0 → ⊥) �
 refused-as s f zero e h = absurd (h refl)
 refused-as s f (suc k) e h = rw e
 
-pub accepted-as : (s : List ℕ) {f n m k : ℕ} → n ≡ joints s → m ≡ rankCount s → k ≡ rankStart s → f ≡ 0
-    → Accepted (record { joints = n; entries = m; labels = labelsStart; rankings = k }) ≡ readingOr s f
-accepted-as s a b c e = rw (a, b, c, e)
+pub accepted-as : (s : List ℕ) {f n m k l : ℕ} → n ≡ joints s → m ≡ rankCount s → k ≡ rankStart s → l ≡ rankEnd s → f ≡ 0
+    → Accepted (record { joints = n; entries = m; labels = labelsStart; rankings = k; parents = l }) ≡ readingOr s f
+accepted-as s a b c d e = rw (a, b, c, d, e)
 
 -- EXTENTS, way by way
 module _ (s : List ℕ) where
@@ -48,19 +49,14 @@ module _ (s : List ℕ) where
         no-count h = rw (ne-eqb _ _ some, le-ltb _ _ few, good, lt-ltb _ _ h)
 
         module _ (counted : rankStart s ≤ length s) where
-          pub cut-short : length s < sheetEnd s → extentsFault s ≡ 1
+          pub cut-short : length s < rankEnd s → extentsFault s ≡ 1
           unfolding extentsFault sheetFaults firstFault
           cut-short h = rw (ne-eqb _ _ some, le-ltb _ _ few, good, le-ltb _ _ counted, lt-ltb _ _ h)
 
-          pub too-long : sheetEnd s < length s → extentsFault s ≡ 8
+          -- up to the third section all is there: its extent decides
+          pub by-third : rankEnd s ≤ length s → (k : ℕ) → extentFault (third s) ≡ k → extentsFault s ≡ k
           unfolding extentsFault sheetFaults firstFault
-          too-long h =
-              let l : sheetEnd s ≤ length s = omega arith in
-              rw (ne-eqb _ _ some, le-ltb _ _ few, good, le-ltb _ _ counted, le-ltb _ _ l, lt-ltb _ _ h)
-
-          pub all-there : sheetEnd s ≤ length s → length s ≤ sheetEnd s → extentsFault s ≡ 0
-          unfolding extentsFault sheetFaults firstFault
-          all-there h g = rw (ne-eqb _ _ some, le-ltb _ _ few, good, le-ltb _ _ counted, le-ltb _ _ h, le-ltb _ _ g)
+          by-third h k e = rw (ne-eqb _ _ some, le-ltb _ _ few, good, le-ltb _ _ counted, le-ltb _ _ h, e) (last-fault k)
 
 -- CONTENTS
 module _ (s : List ℕ) where
@@ -73,9 +69,10 @@ module _ (s : List ℕ) where
     unfolding sheetFault extentsFault sheetFaults
     bad-entries k e h = in-second-part 6 (sheetFaults s) lie ∙ rw e (fault-stops k _ h)
 
-    pub faultless : entriesFault (rankCount s) (joints s) (rankingsPart s) ≡ 0 → sheetFault s ≡ 0
-    unfolding sheetFault extentsFault sheetFaults firstFault
-    faultless clean = in-second-part 6 (sheetFaults s) lie ∙ rw clean
+    -- the entries have no fault: the parents decide
+    pub by-parents : entriesFault (rankCount s) (joints s) (rankingsPart s) ≡ 0 → (k : ℕ) → parentsFault (joints s) (third s) ≡ k → sheetFault s ≡ k
+    unfolding sheetFault extentsFault sheetFaults
+    by-parents clean k e = in-second-part 6 (sheetFaults s) lie ∙ fault-passes _ _ clean ∙ last-fault _ ∙ e
 
 -- THE WHOLE ANSWER, and the square beside it
 module _ (s : List ℕ) (old : List (List ℕ)) where

@@ -9,7 +9,8 @@ use Rattle.sections.specs.Entries.{entryWidth, bandIn}
 use Rattle.sections.specs.Claims.{Sound, Each, Ascending}
 use Rattle.square.specs.Mutual.{mutualEntries, mutualBand}
 use Rattle.sheet.specs.declared.Reading.the-variants.{Accepted, Refused}
-use Rattle.sheet.specs.Format.{joints, rankCount, entriesOf}
+use Rattle.parents.specs.Claims.{IsSection}
+use Rattle.sheet.specs.Format.{joints, rankCount, entriesOf, third}
 use Rattle.sheet.specs.Refusals.{sheetFaults, sheetFault}
 use Rattle.sheet.specs.Square.{at, squareOf, SquarePromise}
 use Rattle.sheet.specs.Promise.{MutualListing, Promise}
@@ -22,9 +23,12 @@ RefusedFirst = (s : List ℕ) (k : ℕ) → readingOf s ≡ Refused k ↔ First 
 abbrev pub AcceptedNone : Type 0
 AcceptedNone = (s : List ℕ) → readingOf s ≡ Accepted (partsOf s) ↔ ((i : ℕ) → getD (sheetFaults s) i 0 ≡ 0)
 
--- the numbers are 1 to 6 and 8
+-- the numbers that a sheet is refused with: 1 to 6, 8 and 18
+abbrev pub OfSheet : ℕ → Type 0
+OfSheet k = ((1 ≤ k) × (k ≤ 6)) ⊎ ((k ≡ 8) ⊎ (k ≡ 18))
+
 abbrev pub SheetNumbers : Type 0
-SheetNumbers = (s : List ℕ) → (sheetFault s ≤ 6) ⊎ (sheetFault s ≡ 8)
+SheetNumbers = (s : List ℕ) → (sheetFault s ≡ 0) ⊎ OfSheet (sheetFault s)
 
 -- an accepted sheet's entries, returned or not, are in range and ascend
 abbrev pub AcceptedEntries : Type 0
@@ -45,12 +49,16 @@ SquareIsMutual = (s : List ℕ) → sheetFault s ≡ 0 → (a b : ℕ) → at (s
 abbrev pub SquareIsEntries : Type 0
 SquareIsEntries = (s : List ℕ) → sheetFault s ≡ 0 → MutualListing (entriesOf s) → (a b : ℕ) → at (squareOf s) a b ≡ bandIn (entriesOf s) a b
 
+-- its third section is left out, or has a parent for each joint
+abbrev pub AcceptedParents : Type 0
+AcceptedParents = (s : List ℕ) → sheetFault s ≡ 0 → IsSection (joints s) (third s)
+
 -- the sizes that buffers are made for
 pub record Sizes (s : List ℕ) : Type 0 where
   pub few-entries : rankCount s ≤ joints s * (joints s - 1)
   pub most-entries : rankCount s ≤ 128 * 127
-  -- MIRROR_SHEET_BYTES: 1 + 16 × 128 + 2 + 3 × 128 × 127
-  pub sheet-bytes : length s ≤ 50819
+  -- MIRROR_SHEET_BYTES: 1 + 16 × 128 + 2 + 3 × 128 × 127 + 1 + 128
+  pub sheet-bytes : length s ≤ 50948
   -- MIRROR_LISTS_BYTES: 2 + 3 × 128 × 127
   pub lists-bytes : 2 + entryWidth * rankCount s ≤ 48770
 

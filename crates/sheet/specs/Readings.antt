@@ -6,12 +6,12 @@ use lib.Dec.{eqb}
 use Rattle.sheet.specs.declared.Parts.{Parts}
 use Rattle.sheet.specs.declared.Reading.{Reading}
 use Rattle.sheet.specs.declared.Reading.the-variants.{Accepted, Refused}
-use Rattle.sheet.specs.Format.{joints, rankCount, labelsStart, rankStart}
+use Rattle.sheet.specs.Format.{joints, rankCount, labelsStart, rankStart, rankEnd}
 use Rattle.sheet.specs.Refusals.{sheetFault}
 use Rattle.sheet.specs.Square.{squareOf}
 
 abbrev pub partsOf : List ℕ → Parts
-partsOf s = record { joints = joints s; entries = rankCount s; labels = labelsStart; rankings = rankStart s }
+partsOf s = record { joints = joints s; entries = rankCount s; labels = labelsStart; rankings = rankStart s; parents = rankEnd s }
 
 -- accepted with its parts where there is no fault, else refused with the number
 abbrev pub readingOr : List ℕ → ℕ → Reading

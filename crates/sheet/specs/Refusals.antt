@@ -1,4 +1,4 @@
--- Refusals 1 to 6 and 8, in the order of document 01. A fault is the number of a refusal, 0 for none.
+-- Refusals 1 to 6, 8 and 18, in the order of documents 01 and 02. A fault is the number of a refusal, 0 for none.
 use mathlib.Core.List.{List, [], _∷_}
 use Prim.Native.Nat.{ℕ}
 use lib.Dec.{eqb, ltb}
@@ -6,7 +6,8 @@ use lib.ListN.{length, take}
 use Rattle.base.specs.Faults.{when, firstFault}
 use Rattle.sections.specs.Labels.{labelsFault}
 use Rattle.sections.specs.Entries.{entriesFault}
-use Rattle.sheet.specs.Format.{joints, labelsPart, rankCount, rankStart, rankingsPart, sheetEnd}
+use Rattle.parents.specs.Parents.{extentFault, parentsFault}
+use Rattle.sheet.specs.Format.{joints, labelsPart, rankCount, rankStart, rankingsPart, rankEnd, third}
 
 -- Extents first, then contents.
 unfoldable pub sheetFaults : List ℕ → List ℕ
@@ -20,11 +21,13 @@ sheetFaults s =
     -- no count of entries
     ∷ when (ltb (length s) (rankStart s)) 1
     -- entries cut short
-    ∷ when (ltb (length s) (sheetEnd s)) 1
-    -- bytes after the last section
-    ∷ when (ltb (sheetEnd s) (length s)) 8
+    ∷ when (ltb (length s) (rankEnd s)) 1
+    -- 1, the third section cut short; 8, bytes after it
+    ∷ extentFault (third s)
     -- 4, 5, 6, entry by entry, whether or not it is returned
     ∷ entriesFault (rankCount s) (joints s) (rankingsPart s)
+    -- 18, a count of parents other than n, or a parent that is neither 255 nor lower
+    ∷ parentsFault (joints s) (third s)
     ∷ []
 
 unfoldable pub sheetFault : List ℕ → ℕ

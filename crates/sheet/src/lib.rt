@@ -1,5 +1,7 @@
-// Reads whole sheets: bytes from outside, in the format of document 01.
+// Reads whole sheets: bytes from outside, in the format of documents 01 and 02.
 use base::wide;
+use parents::parents_extent;
+use parents::read_third;
 use sections::ENTRY_WIDTH;
 use sections::Section;
 ghost use mathlib.Core.Path.{_≡_};
@@ -11,12 +13,14 @@ ghost use Rattle.sheet.specs.Readings.{readingOr, readingOf, squareIn};
 // Where the labels begin.
 const LABELS: usize = 1;
 
-// The parts of a sheet: how many joints and entries, and where the labels and the entries begin.
+// The parts of a sheet: how many joints and entries; where the labels and the entries begin, and where the third section does, with its count:
+// at the sheet's end, if it is left out.
 pub struct Parts {
     pub joints: usize,
     pub entries: usize,
     pub labels: usize,
     pub rankings: usize,
+    pub parents: usize,
 }
 
 // What reading a whole sheet answers: its parts, or the number of the refusal.
@@ -59,14 +63,16 @@ fn extents(sheet: &[u8]) -> Reading
     if sheet.len() < end {
         return Reading::Refused(1);
     }
-    if end < sheet.len() {
-        return Reading::Refused(8);
-    }
+    let third = parents_extent(&sheet[end..]);
+    let Section::Read(_) = third else {
+        return Reading::Refused(sections::number(third));
+    };
     Reading::Accepted(Parts {
         joints: n,
         entries: m,
         labels: LABELS,
         rankings: start,
+        parents: end,
     })
 }
 
@@ -86,6 +92,11 @@ pub fn lists(sheet: &[u8], bands: &mut [[u8; 128]; 128]) -> Reading
     let listed = sections::read_entries(part, parts.joints, m);
     let Section::Read(_) = listed else {
         return Reading::Refused(sections::number(listed));
+    };
+    let end = parts.parents;
+    let third = read_third(&sheet[end..], parts.joints);
+    let Section::Read(_) = third else {
+        return Reading::Refused(sections::number(third));
     };
     square::fill(part, m, bands);
     found

@@ -59,7 +59,10 @@ fn accepted_so(expected: &[u8], parts: Parts) -> bool {
     if !says(expected, 3, parts.labels) {
         return false;
     }
-    says(expected, 4, parts.rankings)
+    if !says(expected, 4, parts.rankings) {
+        return false;
+    }
+    says(expected, 5, parts.parents)
 }
 
 // Is k the band of b on a's list?
@@ -118,7 +121,7 @@ fn accepted_as(sheet: &[u8], parts: Parts, bands: &[[u8; 128]; 128], line: &[u8]
     if !accepted_so(expected, parts) {
         return 0;
     }
-    if !says(expected, 5, PLACES - count_places(bands, 0)) {
+    if !says(expected, 6, PLACES - count_places(bands, 0)) {
         return 0;
     }
     if checks_hold(sheet, bands, part(line, b';', 3)) {

@@ -1,6 +1,6 @@
 -- Each way out of `extents` is a law of its own; the places are named where a fact is first known.
-use lib.ListN.{length}
-use mathlib.Core.Path.{_≡_}
+use lib.ListN.{length, drop}
+use mathlib.Core.Path.{_≡_, ap, _∙_}
 use mathlib.Core.List.{List}
 use Prim.Native.Nat.{ℕ, _+_, _*_, _≤_}
 use native.Mathlib.Omega.{arith}
@@ -8,9 +8,11 @@ use denote.Ref.{now}
 use Rattle.sections.specs.Labels.{labelWidth, labelsFault}
 use Rattle.sections.specs.Readings.{labelsReading}
 use Rattle.sections.proofs.SectionLaws.{section-read, section-refused}
-use Rattle.sheet.specs.Format.{joints, labelsPart, rankCount, rankStart}
+use Rattle.parents.specs.Parents.{extentFault, extentReading}
+use Rattle.sheet.specs.Format.{joints, labelsPart, rankCount, rankStart, rankEnd, third}
+use Rattle.sheet.specs.Refusals.{extentsFault}
 use Rattle.base.proofs.Places.{rest-is}
-use Rattle.sheet.proofs.SheetLaws.{refused-as, accepted-as, no-joints, many-joints, bad-labels, no-count, cut-short, too-long, all-there}
+use Rattle.sheet.proofs.SheetLaws.{refused-as, accepted-as, no-joints, many-joints, bad-labels, no-count, cut-short, by-third}
 use borrow.Author.Needs.{needs}
 use Rattle.sheet.proofs.extents.Statement.{statement}
 use Rattle.sheet.proofs.extents.Tie as tie
@@ -43,6 +45,34 @@ counted c = rw (← labels-read (c .before) .1) (c .if3 .left)
 
 count-is : (c : tie.After-count-at) → c .count-at .result ≡ rankCount (sheet (two (c .before .before)))
 count-is c = rw (← labels-read (c .before .before) .1) (c .count-at .ensures .0)
+
+-- WHERE THE ENTRIES ARE ALL THERE
+abbrev three : tie.Else4 → tie.Else3
+three c = c .before .before
+
+abbrev whole : tie.Else4 → List ℕ
+whole c = sheet (two (three c .before))
+
+-- where they end, as the code has it
+abbrev end : tie.Else4 → ℕ
+end c = 1 + three c .before .before .found .given .0 .0 + 2 + 3 * c .before .count-at .result
+
+end-is : (c : tie.Else4) → end c ≡ rankEnd (whole c)
+end-is c = let size = labels-read (three c .before) .1 in let count = count-is (c .before) in omega arith
+
+reaches : (c : tie.Else4) → rankEnd (whole c) ≤ length (whole c)
+reaches c = let e = end-is c in omega (arith, c .if4 .left)
+
+-- the third section's extent, and what it decides
+extent-is : (c : tie.After-parents-extent) → c .parents-extent .result ≡ extentReading (third (whole (c .before .before)))
+extent-is c =
+    let four : tie.Else4 = c .before .before in
+    c .parents-extent .ensures ∙ ap extentReading (rest-is (end four) (whole four) ∙ ap (λ (k : ℕ). drop k (whole four)) (end-is four))
+
+decided : (c : tie.Else4) (k : ℕ) → extentFault (third (whole c)) ≡ k → extentsFault (whole c) ≡ k
+decided c =
+    let here : tie.Else2 = two (three c .before) in
+    by-third (whole c) (some here) (few here) (labels-read (three c .before) .0) (counted (three c)) (reaches c)
 
 returns : tie.Need-returns
 returns c = refused-as _ _ 1 (no-joints _ (c .if1 .taken)) (λ z. omega arith)
@@ -108,29 +138,48 @@ add-end c = search needs
 
 returns-5 : tie.Need-returns-5
 returns-5 c =
-    let three : tie.Else3 = c .before .before in
-    let here : tie.Else2 = two (three .before) in
-    let (good, size) = labels-read (three .before) in
-    refused-as _ _ 1 (cut-short (sheet here) (some here) (few here) good (counted three) (rw (← count-is (c .before), ← size) (c .if4 .taken)))
+    let at : tie.Else3 = c .before .before in
+    let here : tie.Else2 = two (at .before) in
+    let (good, size) = labels-read (at .before) in
+    refused-as _ _ 1 (cut-short (sheet here) (some here) (few here) good (counted at) (rw (← count-is (c .before), ← size) (c .if4 .taken)))
     (λ z. omega arith)
+
+sub-parents-extent : tie.Need-sub-parents-extent
+sub-parents-extent c = omega (arith, c .if4 .left)
+
+part-parents-extent-start : tie.Need-part-parents-extent-start
+part-parents-extent-start c = omega (arith, c .if4 .left)
+
+part-parents-extent-end : tie.Need-part-parents-extent-end
+part-parents-extent-end c = search needs
+
+parents-extent-requires : tie.Need-parents-extent-requires
+parents-extent-requires c κs = search needs
+
+enum-told-2 : tie.Need-enum-told-2
+enum-told-2 c = search needs
+
+enum-told-3 : tie.Need-enum-told-3
+enum-told-3 c = search needs
+
+number-requires-2 : tie.Need-number-requires-2
+number-requires-2 c κs = search needs
 
 returns-6 : tie.Need-returns-6
 returns-6 c =
-    let three : tie.Else3 = c .before .before .before in
-    let here : tie.Else2 = two (three .before) in
-    let (good, size) = labels-read (three .before) in
-    refused-as _ _ 8 (too-long (sheet here) (some here) (few here) good (counted three) (rw (← count-is (c .before .before), ← size) (c .if5 .taken)))
-    (λ z. omega arith)
+    let read : tie.After-parents-extent = c .before .before .before in
+    let (f, h) = section-refused _ _ (extent-is read) (c .before .enum-told3 .given .1) (c .number2 .ensures) in
+    refused-as _ _ _ (decided (read .before .before) _ f) h
 
 returns-7 : tie.Need-returns-7
 returns-7 c =
-    let three : tie.Else3 = c .before .before .before in
-    let here : tie.Else2 = two (three .before) in
-    let (good, size) = labels-read (three .before) in
-    let count : c .before .before .count-at .result ≡ rankCount (sheet here) = count-is (c .before .before) in
-    let start : 1 + three .before .before .found .given .0 .0 + 2 ≡ rankStart (sheet here) = omega arith in
-    accepted-as (sheet here) (here .before .wide .ensures .0) count start
-    (all-there (sheet here) (some here) (few here) good (counted three) (omega arith) (omega arith))
+    let read : tie.After-parents-extent = c .before .before in
+    let four : tie.Else4 = read .before .before in
+    let here : tie.Else2 = two (three four .before) in
+    let (good, size) = labels-read (three four .before) in
+    let start : 1 + three four .before .before .found .given .0 .0 + 2 ≡ rankStart (sheet here) = omega arith in
+    let (clean, long) = section-read _ _ (extent-is read) (c .enum-told2 .given .1) in
+    accepted-as (sheet here) (here .before .wide .ensures .0) (count-is (four .before)) start (end-is four) (decided four 0 clean)
 
 pub extents-spec : {M : Type 1} → statement M
 extents-spec =
@@ -155,5 +204,12 @@ extents-spec =
     mul-end
     add-end
     returns-5
+    sub-parents-extent
+    part-parents-extent-start
+    part-parents-extent-end
+    parents-extent-requires
+    enum-told-2
+    enum-told-3
+    number-requires-2
     returns-6
     returns-7)
