@@ -1,12 +1,12 @@
-/* The rules of document 01 written straight down in C: reading a sheet, phase one, phase two; and records with marks and
- * the rule where they run out, as document 02 has them. It shares nothing with the library and is what the library's
+/* The rules of document 01 written straight down in C: reading a sheet, phase one, phase two; and records with marks, the
+ * rule where they run out and the section of parents, as document 02 has them. It shares nothing with the library and is what the library's
  * times are held against. */
 #include "plain.h"
 
 #include <stdbool.h>
 #include <string.h>
 
-enum { JOINTS = 128, LABEL = 16, ENTRY = 3, ALONE = 255, MARKS = 8 };
+enum { JOINTS = 128, LABEL = 16, ENTRY = 3, ALONE = 255, ROOT = 255, MARKS = 8 };
 enum { NONE_ONE = 1, NONE_TWO = 2, PAIRED = 3 };
 enum { AGAIN = 256 }; /* no refusal: the working may be in another phase */
 
@@ -61,6 +61,20 @@ static void strike_unreturned(struct working *w, const uint8_t *e, const uint8_t
             w->band[e[0]][e[1]] = 0;
 }
 
+/* The parents' section with its count, or nothing: does it say nothing of parents, or name a root or a lower joint for each
+ * of n joints? */
+static bool parents_ok(const uint8_t *third, size_t size, int n)
+{
+    if (size == 0)
+        return true;
+    if (third[0] != n)
+        return false;
+    for (int i = 0; i < n; i++)
+        if (third[1 + i] != ROOT && third[1 + i] >= i)
+            return false;
+    return true;
+}
+
 /* Reads a sheet into a fresh working. Returns 0 or a refusal. */
 static int read_sheet(struct working *w, const uint8_t *sheet, size_t size)
 {
@@ -84,13 +98,18 @@ static int read_sheet(struct working *w, const uint8_t *sheet, size_t size)
     at += 2;
     if (size - at < ENTRY * m)
         return 1;
-    if (size - at > ENTRY * m)
+
+    const uint8_t *end = sheet + at + ENTRY * m; /* of the entries; then the sheet's, or the count of parents */
+    size_t rest = size - at - ENTRY * m;
+    if (rest > 0 && rest - 1 < end[0])
+        return 1;
+    if (rest > 0 && rest - 1 > end[0])
         return 8;
 
     memset(w, 0, sizeof *w);
     w->n = n;
     int before_a = -1, before_b = -1;
-    for (const uint8_t *e = sheet + at; e < sheet + size; e += ENTRY) {
+    for (const uint8_t *e = sheet + at; e < end; e += ENTRY) {
         int a = e[0], b = e[1], band = e[2];
         if (a >= n || b >= n || a == b)
             return 4;
@@ -102,7 +121,9 @@ static int read_sheet(struct working *w, const uint8_t *sheet, size_t size)
         before_a = a;
         before_b = b;
     }
-    strike_unreturned(w, sheet + at, sheet + size);
+    if (!parents_ok(end, rest, n))
+        return 18;
+    strike_unreturned(w, sheet + at, end);
     return 0;
 }
 

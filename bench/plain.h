@@ -1,4 +1,4 @@
-/* The rules of document 01, with items 1 to 3 of document 02, in plain C, for bench.c. Arguments and returns are those of
+/* The rules of document 01, with items 1 to 3 and 6 of document 02, in plain C, for bench.c. Arguments and returns are those of
  * mirror_settle and mirror_counts (include/mirror.h); plain_counts counts a whole working. */
 #ifndef PLAIN_H
 #define PLAIN_H

@@ -20,6 +20,10 @@
  *   2 bytes    m, the number of entries, low byte first
  *   3 x m      the entries: joint, candidate, band. Bands are 1 to 127, and lower is better. Equal bands on one joint's
  *              list are a tie, and gaps between bands mean nothing. Entries ascend by joint, then by candidate.
+ * and, if the sheet does not end here,
+ *   1 byte     n again
+ *   n bytes    the parent of each joint: 255 for a root, otherwise a lower joint number
+ * Every call looks at the form of these parents; mirror_follow alone uses them, and needs them.
  * A joint may list nobody. An entry counts only if it is returned, that is if its candidate lists its joint too. Lists may
  * be cut off at a distance, so entries that are not returned are welcome; their form is looked at like that of others, but
  * they count as unlisted everywhere: nobody is paired by one, none blocks, and mirror_shorten leaves them out.
@@ -59,12 +63,13 @@
  *    2  n is above 128
  *    1  the sheet ends before its last label does
  *    3  a label breaks its rule or repeats an earlier one
- *    1  the sheet ends before m, or before its last entry does
- *    8  bytes after the last entry
+ *    1  the sheet ends before m, or before its last entry does, or after a count of parents and before the last of so many
+ *    8  bytes after the last of so many parents
  *       entry by entry, for the first that is wrong:
  *    4    a joint not below n, or a joint that lists itself
  *    5    band 0 or above 127
  *    6    not after the entry before it
+ *   18  a count of parents other than n, or a parent that is neither 255 nor a lower joint; for mirror_follow, no parents
  *    9  `out` is too short
  *   10  the offered pairing is not one: not n bytes, a byte that is neither 255 nor a joint, two joints that do not name
  *       each other, or a pair of joints that do not list each other
@@ -97,22 +102,24 @@ extern "C" {
  * MIRROR_SHEET_BYTES takes one byte more, or it will not see that bytes follow a largest sheet (refusal 8), and so for a tariff
  * (refusal 16). */
 #define MIRROR_JOINTS 128
-#define MIRROR_SHEET_BYTES (1 + 16 * 128 + 2 + 3 * 128 * 127)
+#define MIRROR_SHEET_BYTES (1 + 16 * 128 + 2 + 3 * 128 * 127 + 1 + 128)
 #define MIRROR_PAIRING_BYTES 128
 #define MIRROR_LISTS_BYTES (2 + 3 * 128 * 127)
 #define MIRROR_TARIFF_BYTES (1 + 5 * 16)
 
-/* The partner byte of an unpaired joint. */
+/* The partner byte of an unpaired joint, and the parent byte of a root. */
 #define MIRROR_ALONE 255
+#define MIRROR_ROOT 255
 
 /* The parts of what the calls return. MIRROR_REFUSAL is for every call; MIRROR_VERDICT and MIRROR_COUNT for mirror_settle
  * and mirror_shorten; MIRROR_HOLDS and MIRROR_PAIR for mirror_check; MIRROR_PROPOSALS and MIRROR_CUTS for mirror_counts;
- * MIRROR_VERDICT and MIRROR_SUM for mirror_quote. */
+ * MIRROR_VERDICT and MIRROR_SUM for mirror_quote; MIRROR_ASTRAY and MIRROR_PAIR for mirror_follow. */
 #define MIRROR_REFUSAL(r) ((unsigned)((r) & 255))
 #define MIRROR_VERDICT(r) ((unsigned)((r) >> 8 & 255))
 #define MIRROR_COUNT(r) ((unsigned)((r) >> 16))
 #define MIRROR_HOLDS(r) ((unsigned)((r) >> 8 & 255))
 #define MIRROR_PAIR(r) ((unsigned)((r) >> 16))
+#define MIRROR_ASTRAY(r) ((unsigned)((r) >> 8 & 255))
 #define MIRROR_PROPOSALS(r) ((unsigned)((r) >> 16 & 65535))
 #define MIRROR_CUTS(r) ((unsigned)((r) >> 32))
 #define MIRROR_SUM(r) ((uint64_t)(r) >> 16)
@@ -140,7 +147,8 @@ enum mirror_refusal {
     MIRROR_BAD_RECORD = 14,
     MIRROR_NO_SUCH_MARK = 15,
     MIRROR_BAD_TARIFF = 16,
-    MIRROR_REBATE_TOO_HIGH = 17
+    MIRROR_REBATE_TOO_HIGH = 17,
+    MIRROR_BAD_PARENTS = 18
 };
 
 /*
@@ -148,7 +156,7 @@ enum mirror_refusal {
  * program that is linked against a library other than the header it was compiled with can tell:
  *     if (mirror_version() != MIRROR_VERSION) ...
  */
-#define MIRROR_VERSION 4
+#define MIRROR_VERSION 5
 uint32_t mirror_version(void);
 
 /*
@@ -158,7 +166,7 @@ uint32_t mirror_version(void);
  *   verdict 3  a pairing of `count` pairs. out[0 .. n-1] are each joint's partner, 255 for an unpaired joint.
  *   verdict 1  the sheet has no super-stable pairing, which the first phase showed; count is 0, nothing is written.
  *   verdict 2  the same, shown by the second phase.
- *   verdict 0  refused (1 to 6, 8, 9, 11 to 15); count is 0, nothing is written.
+ *   verdict 0  refused (1 to 6, 8, 9, 11 to 15, 18); count is 0, nothing is written.
  * `out` needs n bytes or more, also where there turns out to be no pairing. Bytes past the first n stay as they were.
  */
 uint32_t mirror_settle(const uint8_t *sheet, size_t sheet_size,
@@ -172,7 +180,7 @@ uint32_t mirror_settle(const uint8_t *sheet, size_t sheet_size,
  *   verdict 3  `count` entries are left. `out` begins with the count, two bytes, low byte first, then 3 x count bytes of
  *              entries in the sheet's form and order, with the sheet's bands.
  *   verdict 1  the sheet has no super-stable pairing; count is 0, nothing is written.
- *   verdict 0  refused (1 to 6, 8, 9, 11, 13 to 15); count is 0, nothing is written.
+ *   verdict 0  refused (1 to 6, 8, 9, 11, 13 to 15, 18); count is 0, nothing is written.
  * `out` needs 2 + 3 x m bytes or more, for the m of the sheet, which counts entries that are not returned too. Bytes past
  * those written stay as they were.
  */
@@ -191,7 +199,7 @@ uint32_t mirror_shorten(const uint8_t *sheet, size_t sheet_size,
  *                  while (b * (b + 1) / 2 <= pair)
  *                      b++;
  *                  a = pair - b * (b - 1) / 2;
- *              With refusal 1 to 6, 8 or 10: not checked; pair is 0.
+ *              With refusal 1 to 6, 8, 10 or 18: not checked; pair is 0.
  */
 uint32_t mirror_check(const uint8_t *sheet, size_t sheet_size,
                       const uint8_t *pairing, size_t pairing_size);
@@ -201,7 +209,7 @@ uint32_t mirror_check(const uint8_t *sheet, size_t sheet_size,
  * proposals of the first phase, one for each joint reached, and cuts of the second.
  *
  * Returns refusal + 65,536 x proposals + 2^32 x cuts, of the steps standing: those taken back by a return do not count.
- * Where the sheet is refused (1 to 6, 8), or the number of choice bytes is odd (14), both are 0. Where a record is refused (11
+ * Where the sheet is refused (1 to 6, 8, 18), or the number of choice bytes is odd (14), both are 0. Where a record is refused (11
  * to 15) they are of the steps then standing.
  */
 uint64_t mirror_counts(const uint8_t *sheet, size_t sheet_size,
@@ -216,7 +224,7 @@ uint64_t mirror_counts(const uint8_t *sheet, size_t sheet_size,
  *   verdict 3  a pairing; `sum` is payable, in cents, rounded down: total x (10,000 - rebate) / 10,000. No pairs cost 0.
  *   verdict 1  the sheet has no super-stable pairing, which the first phase showed; there is no sum (its place has 0).
  *   verdict 2  the same, shown by the second phase.
- *   verdict 0  refused (1 to 6, 8, 11 to 17); the sum's place has 0.
+ *   verdict 0  refused (1 to 6, 8, 11 to 18); the sum's place has 0.
  * Where nothing is refused the choices change nothing: the sum belongs to the sheet, the tariff and the rebate. One more pair
  * never lowers it, a higher rebate never raises it, and it is never above the total; it is below 2^38 for every tariff.
  *     uint64_t answer = mirror_quote(sheet, size, NULL, 0, tariff, sizeof tariff, 250), cents;
@@ -227,6 +235,24 @@ uint64_t mirror_quote(const uint8_t *sheet, size_t sheet_size,
                       const uint8_t *choices, size_t choices_size,
                       const uint8_t *tariff, size_t tariff_size,
                       uint32_t rebate);
+
+/*
+ * Tells which pairs of an offered pairing follow the skeleton. A pair follows if the parents of its two joints are paired
+ * together, or are one joint, or if both joints are roots; a root and a joint that is none never follow. The pairing is any
+ * matching of the sheet, super-stable or not. A pairing can hold and still mirror a thumb to a toe: mirror_check goes by
+ * likeness alone.
+ *
+ * Returns refusal + 256 x astray + 65,536 x pair:
+ *   astray     the number of pairs that do not follow, at most 64; 0 where all follow, and then paired joints are equally
+ *              deep in the skeleton.
+ *   pair       the lowest number of such a pair, 0 where all follow; its joints are found as for mirror_check.
+ * With refusal 1 to 6, 8, 10 or 18 both are 0. A sheet without parents is 18, also where it has no joint.
+ *     uint32_t answer = mirror_follow(sheet, size, partner, n);
+ *     if (MIRROR_REFUSAL(answer) == MIRROR_ACCEPTED && MIRROR_ASTRAY(answer) != 0)
+ *         printf("%u pairs do not follow, number %u first\n", MIRROR_ASTRAY(answer), MIRROR_PAIR(answer));
+ */
+uint32_t mirror_follow(const uint8_t *sheet, size_t sheet_size,
+                       const uint8_t *pairing, size_t pairing_size);
 
 #ifdef __cplusplus
 }

@@ -7,7 +7,7 @@ use native.Mathlib.Numerals.{add-one}
 use native.Mathlib.Omega.{arith}
 use Rattle.base.specs.Below.{countBelow, sumBelow}
 use Rattle.base.proofs.Cases.{case, both-ways, lt-ge}
-use Rattle.base.proofs.SumBelow.{sum-grows}
+use Rattle.base.proofs.SumBelow.{sum-grows, sum-le}
 
 -- a count is a sum of ones
 abbrev pub ones : (ℕ → Bool) → ℕ → ℕ
@@ -55,6 +55,13 @@ pub count-same : (n : ℕ) (f g : ℕ → Bool) → ((i : ℕ) → i < n → f i
 unfolding countBelow
 count-same zero f g h = refl
 count-same (suc n) f g h = rw (count-same n f g (λ i l. h i (omega arith)), h n (omega arith))
+
+pub count-le : (n : ℕ) (f g : ℕ → Bool) → ((i : ℕ) → i < n → f i ≡ true → g i ≡ true) → countBelow n f ≤ countBelow n g
+count-le n f g h = rw (count-sum n f, count-sum n g) (sum-le n (ones f) (ones g) (λ i l. go (f i) (g i) (h i l)))
+  where
+    go : (a b : Bool) → (a ≡ true → b ≡ true) → cond a 1 0 ≤ cond b 1 0
+    go true b h = rw (h refl) (omega arith)
+    go false b h = omega arith
 
 -- those that pass and those that do not are all
 pub count-rest : (n : ℕ) (test : ℕ → Bool) → countBelow n test + countBelow n (λ i. not (test i)) ≡ n

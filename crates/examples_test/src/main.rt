@@ -1,6 +1,9 @@
-// Holds what mirror prints for each example sheet to the text that stands beside it, and what quote answers for one to its price.
+// Holds what mirror prints for each example sheet to the text that stands beside it, what quote answers for one to its price, and what follow
+// answers for the example pairings to what is reasoned.
 use quote::Quoted;
 use quote::quote;
+use skeleton::Followed;
+use skeleton::follow;
 ghost use Rattle.io.specs.Counts.{Counts};
 
 // Reads a file, or nothing where it cannot be opened.
@@ -63,7 +66,40 @@ fn try_quote(sheet_path: &[u8], tariff_path: &[u8], rebate: u32, expected: u64) 
     say(is_quoted(sheet_path, tariff_path, rebate, expected));
 }
 
-// The fox has ten pairs: three at 500 cents and seven at 300, less two and a half percent.
+// So many pairs do not follow, and the lowest of their numbers is as expected; none and 0 where all follow.
+fn is_following(answer: Followed, pairs: u32, lowest: u32) -> bool {
+    match answer {
+        Followed::Refused(_) => false,
+        Followed::All => pairs == 0,
+        Followed::Astray(strays) => {
+            if strays.pairs == pairs {
+                strays.lowest == lowest
+            } else {
+                false
+            }
+        }
+    }
+}
+
+fn is_followed(sheet_path: &[u8], pairing_path: &[u8], pairs: u32, lowest: u32) -> bool {
+    let mut sheet = io::large_buffer();
+    let size = read_file(sheet_path, &mut sheet);
+    let mut pairing = io::buffer();
+    let pairing_size = read_file(pairing_path, &mut pairing);
+    let answer = follow(&sheet[..size], &pairing[..pairing_size]);
+    is_following(answer, pairs, lowest)
+}
+
+fn try_follow(sheet_path: &[u8], pairing_path: &[u8], pairs: u32, lowest: u32) {
+    io::write_all(1, sheet_path);
+    io::write_all(1, b" with ");
+    io::write_all(1, pairing_path);
+    say(is_followed(sheet_path, pairing_path, pairs, lowest));
+}
+
+// The fox has ten pairs: three at 500 cents and seven at 300, less two and a half percent. Each is of a left joint and its right one, so all
+// follow. Where a thumb is mirrored to a toe, their parents are a wrist and an ankle: joints 5 and 8, and 6 and 7, whose pair is number
+// 7 × 6 ÷ 2 + 6.
 fn main() {
     try_example(b"row-a.sheet", b"row-a.txt");
     try_example(b"row-e.sheet", b"row-e.txt");
@@ -72,5 +108,8 @@ fn main() {
     try_example(b"fox.sheet", b"fox.txt");
     try_example(b"one-sided.sheet", b"one-sided.txt");
     try_example(b"refused.sheet", b"refused.txt");
+    try_example(b"thumb.sheet", b"thumb.txt");
     try_quote(b"fox.sheet", b"shop.tariff", 250, 3510);
+    try_follow(b"fox.sheet", b"fox.pairing", 0, 0);
+    try_follow(b"thumb.sheet", b"thumb-to-toe.pairing", 2, 27);
 }

@@ -6,16 +6,17 @@ use Prim.Native.Nat.{ℕ, _*_, _≤_, _<_}
 use native.Mathlib.Omega.{arith}
 use lib.Dec.{eqb, ltb}
 use lib.ListN.{length}
-use borrow.Author.Tests.{eqb-true, ltb-true, eq-eqb, ne-eqb, lt-ltb}
+use borrow.Author.Tests.{eqb-true, ltb-true, eq-eqb, ne-eqb, lt-ltb, le-ltb}
 use Rattle.sheet.specs.Square.{at, SquarePromise}
-use Rattle.base.specs.Below.{countBelow}
+use Rattle.base.specs.Below.{countBelow, sumBelow}
 use Rattle.base.proofs.Cases.{case, lt-ge}
 use Rattle.base.proofs.Tests.{and-true, never, not-so}
-use Rattle.base.proofs.CountBelow.{ones, count-sum, count-most, count-rest, count-one, counted, two-counted, Two}
+use Rattle.base.proofs.CountBelow.{ones, count-sum, count-most, count-grows, count-rest, count-one, counted, two-counted, Two}
+use Rattle.base.proofs.Faults.{when-most}
 use Rattle.base.proofs.SumBelow.{sum-same, sum-even, halfSum}
 use Rattle.matching.specs.Matchings.{partner, isAlone, pairedJoints, aloneCount}
 use Rattle.matching.specs.Plain.{Paired, Matching}
-use Rattle.matching.specs.Claims.{PairedOrAlone, TwoToAPair}
+use Rattle.matching.specs.Claims.{PairedOrAlone, TwoToAPair, OneHigher}
 use Rattle.matching.proofs.MatchingTest.{is-matching-means}
 
 -- as the loop has it, joint by joint
@@ -114,9 +115,41 @@ module _ (n : ℕ) (t : List (List ℕ)) (m : List ℕ) (sq : SquarePromise n t)
       ∙ sum-same n _ _ (λ a la. sym (partners a la) ∙ count-sum n (together a))
       ∙ sum-even n (λ a. ones (together a)) (λ a b. ap (λ (c : Bool). cond c 1 0) (across a b)) (λ a. ap (λ (c : Bool). cond c 1 0) (not-itself a))
 
+  -- b is together with one joint below it, if its partner is lower, and else with none
+  lower-partner : (b : ℕ) → b < n → sumBelow b (ones (together b)) ≡ ones (λ b. ltb (partner m b) b) b
+  unfolding Together
+  lower-partner b lb =
+      sym (count-sum b (together b)) ∙ case (lt-ge (partner m b) b)
+      (λ l.
+      let some : 1 ≤ countBelow b (together b) = count-one b (together b) (partner m b) l (together-passes b (partner m b) (lb, omega arith, refl)) in
+      let most : countBelow b (together b) ≤ countBelow n (together b) = count-grows n b (together b) (omega arith) in
+      let one = partners b lb in
+      let paired : ones (λ a. not (isAlone m a)) b ≤ 1 = when-most (not (isAlone m b)) 1 1 (omega arith) in
+      let e : countBelow b (together b) ≡ 1 = omega arith in
+      e ∙ rw (lt-ltb (partner m b) b l))
+      (λ l.
+      let none : countBelow b (together b) ≡ 0 = case (lt-ge 0 (countBelow b (together b)))
+      (λ some.
+      let j : (j : ℕ) × (j < b) × (together b j ≡ true) = counted b (together b) some in
+      let h : Together b (j .0) = are-together b (j .0) (j .2) in
+      absurd (omega (arith, j .1, h .2)))
+      (λ z. omega arith) in
+      none ∙ rw (le-ltb (partner m b) b l))
+
+  higher-joints : halfSum n (λ a. ones (together a)) ≡ countBelow n (λ b. ltb (partner m b) b)
+  unfolding halfSum
+  higher-joints = sum-same n _ _ lower-partner ∙ sym (count-sum n (λ b. ltb (partner m b) b))
+
 pub two-to-a-pair : TwoToAPair
 unfolding pairedJoints
 two-to-a-pair n t m sq h =
     let w : (length m ≡ n) × Matching n (at t) (partner m) = is-matching-means n t m .0 h in
     let e : pairedBelow (length m) m ≡ pairedBelow n m = ap (λ (i : ℕ). pairedBelow i m) (w .0) in
     omega (arith, even n t m sq (w .1))
+
+pub one-higher : OneHigher
+unfolding pairedJoints
+one-higher n t m sq h =
+    let w : (length m ≡ n) × Matching n (at t) (partner m) = is-matching-means n t m .0 h in
+    let e : pairedBelow (length m) m ≡ pairedBelow n m = ap (λ (i : ℕ). pairedBelow i m) (w .0) in
+    omega (arith, e, even n t m sq (w .1), higher-joints n t m sq (w .1))

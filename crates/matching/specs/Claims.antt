@@ -4,7 +4,9 @@ use mathlib.Core.Bool.{true}
 use mathlib.Core.Logic.{_↔_}
 use mathlib.Core.List.{List}
 use Prim.Native.Nat.{ℕ, _+_, _*_, _≤_, _<_}
+use lib.Dec.{ltb}
 use lib.ListN.{length}
+use Rattle.base.specs.Below.{countBelow}
 use Rattle.sheet.specs.Square.{at, SquarePromise}
 use Rattle.matching.specs.Matchings.{partner, isMatching, pairedJoints, aloneCount, pairCount, pairNumber}
 use Rattle.matching.specs.Plain.{Matching}
@@ -19,6 +21,11 @@ PairedOrAlone = (m : List ℕ) → pairedJoints m + aloneCount m ≡ length m
 
 abbrev pub TwoToAPair : Type 0
 TwoToAPair = (n : ℕ) (t : List (List ℕ)) (m : List ℕ) → SquarePromise n t → isMatching n t m ≡ true → 2 * pairCount m ≡ pairedJoints m
+
+-- each pair has one higher joint: one whose partner is lower
+abbrev pub OneHigher : Type 0
+OneHigher = (n : ℕ) (t : List (List ℕ)) (m : List ℕ) → SquarePromise n t → isMatching n t m ≡ true
+    → countBelow n (λ b. ltb (partner m b) b) ≡ pairCount m
 
 -- the numbers go up by one: from 0, along the pairs with one higher joint, and from the last of these to the first of the next
 pub record PairNumberConsecutive : Type 0 where

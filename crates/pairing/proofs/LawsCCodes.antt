@@ -15,6 +15,9 @@ use Rattle.calls.specs.Checks.{checkOf}
 use Rattle.calls.specs.Calls.{settleAnswer, shortenAnswer, countsOf}
 use Rattle.promises.proofs.CallsKeep.{calls-keep}
 use Rattle.promises.proofs.CheckKeeps.{check-keeps}
+use Rattle.skeleton.specs.Answers.{followOf}
+use Rattle.skeleton.proofs.FollowsKept.{follows-kept}
+use Rattle.pairing.specs.CCodes.{astrayBy}
 use Rattle.quote.specs.declared.Quoted.the-variants as Q
 use Rattle.quote.specs.Quotes.{quoteAnswer}
 use Rattle.quote.proofs.QuotesKept.{quotes-kept}
@@ -33,6 +36,9 @@ check-pair-small s m k e =
     let l = b .joint in
     let q = pair-number-small (b .lower) (b .higher) (b .below) (omega arith) in
     omega (arith, b .numbered)
+
+pub follow-small : (s m : List ℕ) (k l : ℕ) → followOf s m ≡ astrayBy k l → (k < 256) × (l < 65536)
+follow-small s m k l e = let few = follows-kept s m .few k l e in (omega (arith, few .1), omega (arith, few .2))
 
 pub proposals-small : (whole : Bool) (s cs : List ℕ) → countsOf whole s cs .proposals < 65536
 proposals-small whole s cs = omega (arith, calls-keep s .counts-small whole cs .0)

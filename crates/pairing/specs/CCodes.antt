@@ -11,10 +11,12 @@ use Rattle.calls.specs.declared.Shortened.the-variants as L
 use Rattle.calls.specs.declared.Counts.{Counts}
 use Rattle.quote.specs.declared.Quoted.{Quoted}
 use Rattle.quote.specs.declared.Quoted.the-variants as Q
+use Rattle.skeleton.specs.declared.Followed.{Followed}
+use Rattle.skeleton.specs.declared.Followed.the-variants as F
 
 -- The version of the interface: raised by each landing that changes the meaning or the signature of a call.
 abbrev pub version : ℕ
-version = 4
+version = 5
 
 -- a refusal's number, a verdict, and a count or a sum
 abbrev pub packed : ℕ → ℕ → ℕ → ℕ
@@ -47,3 +49,12 @@ quotedCode (Q.Refused k) = packed k 0 0
 quotedCode (Q.None P.One) = packed 0 1 0
 quotedCode (Q.None P.Two) = packed 0 2 0
 quotedCode (Q.Payable sum) = packed 0 3 sum
+
+-- The number of pairs that do not follow in the verdict's place, and the lowest of their numbers in the count's; both are 0 where all follow.
+abbrev pub astrayBy : ℕ → ℕ → Followed
+astrayBy pairs lowest = F.Astray (record { pairs = pairs; lowest = lowest })
+
+abbrev pub followedCode : Followed → ℕ
+followedCode (F.Refused k) = packed k 0 0
+followedCode F.All = packed 0 0 0
+followedCode (F.Astray strays) = packed 0 (strays .pairs) (strays .lowest)

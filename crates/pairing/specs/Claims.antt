@@ -4,9 +4,10 @@ use Prim.Native.Nat.{ℕ, _+_, _*_, _/_, _%_, _<_}
 use Rattle.calls.specs.declared.Counts.{Counts}
 use Rattle.calls.specs.declared.Phase.the-variants as P
 use Rattle.quote.specs.declared.Quoted.the-variants as Q
-use Rattle.pairing.specs.CCodes.{packed, countsCode, quotedCode}
+use Rattle.skeleton.specs.declared.Followed.the-variants as F
+use Rattle.pairing.specs.CCodes.{packed, countsCode, quotedCode, astrayBy, followedCode}
 
--- MIRROR_REFUSAL; MIRROR_VERDICT and MIRROR_HOLDS; MIRROR_COUNT, MIRROR_PAIR and MIRROR_SUM
+-- MIRROR_REFUSAL; MIRROR_VERDICT, MIRROR_HOLDS and MIRROR_ASTRAY; MIRROR_COUNT, MIRROR_PAIR and MIRROR_SUM
 abbrev pub PartsReadBack : Type 0
 PartsReadBack = (number verdict count : ℕ) → number < 256 → verdict < 256
     → (packed number verdict count % 256 ≡ number)
@@ -19,6 +20,12 @@ pub record QuoteNumbers : Type 0 where
   pub none-one : quotedCode (Q.None P.One) ≡ 256
   pub none-two : quotedCode (Q.None P.Two) ≡ 512
   pub payable : (sum : ℕ) → quotedCode (Q.Payable sum) ≡ 768 + 65536 * sum
+
+-- mirror_follow's numbers: a refusal alone; 0 where all pairs follow; else how many do not, and the lowest of their numbers
+pub record FollowNumbers : Type 0 where
+  pub refused : (k : ℕ) → followedCode (F.Refused k) ≡ k
+  pub all : followedCode F.All ≡ 0
+  pub astray : (pairs lowest : ℕ) → followedCode (astrayBy pairs lowest) ≡ 256 * pairs + 65536 * lowest
 
 -- MIRROR_REFUSAL, MIRROR_PROPOSALS and MIRROR_CUTS
 abbrev pub CountsReadBack : Type 0

@@ -1,6 +1,7 @@
 // The calls as C has them (include/mirror.h), a module for each: a slice is a pointer and a size, an answer one number.
 pub mod checking;
 pub mod counting;
+pub mod following;
 pub mod quoting;
 pub mod settling;
 pub mod shortening;

@@ -7,5 +7,5 @@ ghost use Rattle.pairing.specs.CCodes.{version};
 pub extern "C" fn mirror_version() -> u32
     ensures { λ r. ⌜ r ≡ version ⌝ }
 {
-    4
+    5
 }
