@@ -9,8 +9,9 @@
  * keeps nothing between calls, takes no memory but the stack, and may run in several threads at once. What a caller owes:
  *   - each pointer points to as many bytes as the size after it says (NULL will do where the size is 0);
  *   - `out` shares no byte with another argument, and nothing writes to any argument during the call;
- *   - 384 KiB of stack are free, whatever the sheet and the choices (64 KiB for mirror_check); measured, a call uses up to
- *     285,432 bytes (mirror_check 33,208). A main thread has far more; a thread that is started with a small stack may not.
+ *   - 384 KiB of stack are free, whatever the sheet and the choices (64 KiB for mirror_check and mirror_follow); measured, a
+ *     call uses up to 285,448 bytes (these two 32,968). A main thread has far more; a thread that is started with a small
+ *     stack may not.
  *
  * The library is for x86-64 Linux and calls memcpy, memmove and memset of the C library, nothing else.
  *
