@@ -1,6 +1,6 @@
 -- Laws of faults: which is the first, and what none tells.
 use mathlib.Core.Path.{_≡_, refl, sym, _∙_}
-use mathlib.Core.Bool.{Bool, true, false}
+use mathlib.Core.Bool.{Bool, true, false, not}
 use mathlib.Core.List.{List, [], _∷_}
 use mathlib.Core.Logic.{_⊎_, inl, inr, _≢_, _↔_}
 use Prim.Native.Nat.{ℕ, zero, suc, _+_, _≤_, _<_}
@@ -58,6 +58,19 @@ when-holds P false k none h = none
 
 pub when-most : (b : Bool) (k m : ℕ) → k ≤ m → when b k ≤ m
 when-most b k m h = when-holds (λ i. i ≤ m) b k (omega arith) h
+
+-- a number unless the test holds
+pub unless-none : (b : Bool) (k : ℕ) → when (not b) (suc k) ≡ 0 → b ≡ true
+unless-none true k h = refl
+unless-none false k h = absurd (omega arith)
+
+pub unless-is : (b : Bool) (k : ℕ) → when (not b) (suc k) ≡ suc k → b ≡ false
+unless-is true k h = absurd (omega arith)
+unless-is false k h = refl
+
+pub unless-other : (b : Bool) (j k : ℕ) → 1 ≤ k → j ≢ k → when (not b) j ≢ k
+unless-other true j k some ne e = omega arith
+unless-other false j k some ne e = ne e
 
 -- what holds of every number of a list holds of the first; as that none is above m
 pub first-holds : (P : ℕ → Type 0) (f : ℕ) (later : List ℕ) → P f → P (firstFault later) → P (firstFault (f ∷ later))

@@ -1,19 +1,18 @@
 -- A section without a fault is none, or a parent for each joint.
 use mathlib.Core.Path.{_≡_, refl, sym, ap, subst, _∙_}
-use mathlib.Core.Bool.{Bool, true, false, not, _&&_}
+use mathlib.Core.Bool.{false, not}
 use mathlib.Core.List.{List, [], _∷_}
 use mathlib.Core.Logic.{_⊎_, inl, inr}
 use Prim.Native.Nat.{ℕ, suc, _+_, _≤_, _<_}
 use native.Mathlib.Omega.{arith}
-use lib.Dec.{eqb, leb}
-use lib.ListN.{length, getD, List·getD-eq-default}
-use borrow.Author.Tests.{eqb-true, eqb-false, eq-eqb, ne-eqb, lt-leb, leb-true, leb-false, not-false}
+use lib.Dec.{eqb}
+use lib.ListN.{length, List·getD-eq-default}
+use borrow.Author.Tests.{eqb-true, eq-eqb, ne-eqb, lt-leb, leb-false, not-false}
 use Rattle.base.specs.Below.{anyBelow}
-use Rattle.base.specs.Faults.{when}
 use Rattle.base.proofs.AnyBelow.{any-none, none-any}
-use Rattle.base.proofs.Cases.{case, both-ways, eq-ne, lt-ge}
+use Rattle.base.proofs.Cases.{case, eq-ne, lt-ge}
 use Rattle.base.proofs.Faults.{when-none}
-use Rattle.base.proofs.Tests.{or-false, never, not-so, and-true}
+use Rattle.base.proofs.Tests.{or-false}
 use Rattle.parents.specs.Parents.{parentOf, badParent, parentsIn, extentFault, countedFault, parentsFault}
 use Rattle.parents.specs.Claims.{Lower, OneEach, IsSection, SectionRule}
 use Rattle.parents.proofs.ThirdLaws.{extent-whole, extent-exact, by-parents}

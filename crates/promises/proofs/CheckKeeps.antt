@@ -2,7 +2,7 @@
 use mathlib.Core.Path.{_≡_, refl, sym, ap, _∙_}
 use mathlib.Core.Bool.{Bool, true, false, not}
 use mathlib.Core.List.{List}
-use mathlib.Core.Logic.{_⊎_, inl, inr, _≢_, _↔_}
+use mathlib.Core.Logic.{_⊎_, inl, inr, _↔_}
 use mathlib.Core.Option.{Option, none, some}
 use Prim.Native.Nat.{ℕ, zero, suc, _≤_}
 use native.Mathlib.Omega.{arith}
@@ -10,7 +10,7 @@ use lib.ListN.{length}
 use Rattle.base.specs.Claims.{First}
 use Rattle.base.specs.Faults.{when, firstFault}
 use Rattle.base.proofs.Cases.{case, unlike}
-use Rattle.base.proofs.Faults.{first-answered, first-none, first-holds, fault-here, fault-behind, fault-passes, last-fault}
+use Rattle.base.proofs.Faults.{first-answered, first-none, first-holds, fault-here, fault-behind, fault-passes, last-fault, unless-none, unless-is, unless-other}
 use Rattle.base.proofs.Tests.{never, not-so}
 use Rattle.sheet.specs.Format.{joints}
 use Rattle.sheet.specs.Refusals.{sheetFault}
@@ -50,18 +50,6 @@ checked-blocked (suc f) k o = (λ h. absurd (unlike cc), λ h. absurd (omega ari
 abbrev ten : Bool → ℕ
 ten b = when (not b) 10
 
-ten-none : (b : Bool) → ten b ≡ 0 → b ≡ true
-ten-none true h = refl
-ten-none false h = absurd (omega arith)
-
-ten-is : (b : Bool) → ten b ≡ 10 → b ≡ false
-ten-is true h = absurd (omega arith)
-ten-is false h = refl
-
-ten-only : (b : Bool) (k : ℕ) → OfSheet k → ten b ≢ k
-ten-only true k own h = let some = of-sheet-some k own in omega arith
-ten-only false k own h = not-of-sheet k own (omega arith) (omega arith)
-
 -- a refusal's number
 abbrev Number : ℕ → Type 0
 Number k = 1 ≤ k → OfSheet k ⊎ (k ≡ 10)
@@ -85,7 +73,7 @@ module _ (s m : List ℕ) where
   passes = (
     λ h.
         let (f, rest) = first-none (sheetFault s) _ h in
-        (f, ten-none _ (sym (last-fault _) ∙ rest)),
+        (f, unless-none _ 9 (sym (last-fault _) ∙ rest)),
     λ h. fault-passes _ _ (h .0) ∙ last-fault _ ∙ rw (h .1) refl,
   )
 
@@ -107,8 +95,9 @@ module _ (s m : List ℕ) where
   by-sheet : (k : ℕ) → OfSheet k → checkOf s m ≡ Refused k ↔ (sheetFault s ≡ k)
   by-sheet k known =
       let one = of-sheet-some k known in
+      let other = unless-other (isMatching n t m) 10 k one (λ e. not-of-sheet k known (omega arith) (omega arith)) in
       let a = checked-refused (firstFault (checkFaults s m)) k pair in
-      let own = fault-here (sheetFault s) _ k one (λ e. ten-only (isMatching n t m) k known (sym (last-fault _) ∙ e)) in
+      let own = fault-here (sheetFault s) _ k one (λ e. other (sym (last-fault _) ∙ e)) in
       (λ h. own .0 (a .0 h .0), λ e. a .1 (own .1 e, one))
 
   by-ten : checkOf s m ≡ Refused 10 ↔ ((sheetFault s ≡ 0) × ((length m ≡ n) × Matching n (at t) (partner m) → ⊥))
@@ -117,7 +106,7 @@ module _ (s m : List ℕ) where
       let r = fault-behind (sheetFault s) _ 10 (sheet-not s 10 (omega arith) (omega arith)) in (
         λ h.
             let w = r .0 (a .0 h .0) in
-            (w .0, λ x. never _ (is-matching-means n t m .1 x) (ten-is _ (sym (last-fault _) ∙ w .1))),
+            (w .0, λ x. never _ (is-matching-means n t m .1 x) (unless-is _ 9 (sym (last-fault _) ∙ w .1))),
         λ h.
             let none : isMatching n t m ≡ false = not-so (isMatching n t m) (λ q. h .1 (is-matching-means n t m .0 q)) in
             a .1 (r .1 (h .0, last-fault _ ∙ rw none refl), omega arith),

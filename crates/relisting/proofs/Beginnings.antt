@@ -13,7 +13,7 @@ use Rattle.sections.proofs.LabelRule.{labels-rule}
 use Rattle.parents.specs.Parents.{parentsFault}
 use Rattle.parents.specs.Claims.{IsSection}
 use Rattle.parents.proofs.SectionRule.{section-rule}
-use Rattle.sheet.specs.Format.{joints, labelsPart, labelOf, countStart, rankCount, rankStart, rankingsPart, rankEnd, third}
+use Rattle.sheet.specs.Format.{joints, labelsPart, labelOf, countStart, rankCount, rankingsPart, rankEnd, third}
 use Rattle.sheet.specs.Refusals.{sheetFault}
 use Rattle.sheet.proofs.Accepted.{Accepted}
 use Rattle.sheet.proofs.SheetLaws.{by-third, by-parents}

@@ -1,17 +1,15 @@
 -- An accepted sheet with another third section, or none, is accepted, and has its joints, labels and rankings.
-use mathlib.Core.Path.{_≡_, refl, sym, ap, _∙_}
+use mathlib.Core.Path.{_≡_, sym, ap, _∙_}
 use mathlib.Core.List.{List, _++_, append-assoc}
 use Prim.Native.Nat.{ℕ, _+_, _*_, _≤_, _<_}
 use native.Mathlib.Omega.{arith}
 use lib.ListN.{length, take, drop, getD, length-append, take-append-drop, List·getD-append}
 use lib.Seq.{length-take-le, getD-take, getD-drop, take-take, drop-at, ext-getD}
-use Rattle.sections.specs.declared.Entry.{Entry}
 use Rattle.sections.specs.Entries.{entryWidth, entry, entryIn, entriesFrom, entriesFault}
 use Rattle.sections.specs.Claims.{GoodEntries}
 use Rattle.sections.proofs.EntryFaults.{entries-rule}
 use Rattle.sections.proofs.EntryList.{length-entries, entry-at}
 use Rattle.sheet.specs.Format.{joints, labelOf, countStart, rankCount, rankStart, rankingsPart, rankEnd, entriesOf, third}
-use Rattle.sheet.specs.Refusals.{sheetFault}
 use Rattle.sheet.proofs.Accepted.{Accepted, accepted}
 use Rattle.relisting.specs.Written.{withThird}
 use Rattle.relisting.specs.Claims.{OtherParents}

@@ -1,7 +1,7 @@
 -- An accepted sheet with other rankings, entries that ascend and are sound, and a third section: it is accepted, and has its labels and these entries.
-use mathlib.Core.Path.{_≡_, refl, ap, _∙_}
+use mathlib.Core.Path.{_≡_, refl, _∙_}
 use mathlib.Core.List.{List, _∷_, _++_}
-use Prim.Native.Nat.{ℕ, suc, _+_, _*_, _/_, _%_, _≤_, _<_}
+use Prim.Native.Nat.{ℕ, suc, _+_, _/_, _%_, _≤_, _<_}
 use native.Mathlib.Nat.{add-zero}
 use native.Mathlib.Omega.{arith}
 use lib.ListN.{length, drop, getD, length-append}
@@ -15,7 +15,7 @@ use Rattle.sheet.specs.Format.{joints, labelOf, countStart, rankCount, rankings
 use Rattle.sheet.specs.Refusals.{sheetFault}
 use Rattle.sheet.proofs.Accepted.{Accepted}
 use Rattle.relisting.specs.Written.{bytesOf, countBytes, ranked}
-use Rattle.relisting.proofs.Beginnings.{front, front-length, begun-joints, past-front, begun-label, begun-accepted}
+use Rattle.relisting.proofs.Beginnings.{front, begun-joints, past-front, begun-label, begun-accepted}
 use Rattle.relisting.proofs.EntryBytes.{bytes-length, byte-entry, entries-back}
 
 module _ (s : List ℕ) (x : Accepted s) (es : List Entry) (own : List ℕ) where

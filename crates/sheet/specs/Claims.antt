@@ -3,8 +3,9 @@ use mathlib.Core.Path.{_≡_}
 use mathlib.Core.List.{List}
 use mathlib.Core.Logic.{_⊎_, _↔_}
 use Prim.Native.Nat.{ℕ, _+_, _*_, _-_, _≤_, _<_}
-use lib.ListN.{length, getD}
+use lib.ListN.{length, getD, take}
 use Rattle.base.specs.Claims.{First}
+use Rattle.base.specs.Faults.{firstFault}
 use Rattle.sections.specs.Entries.{entryWidth, bandIn}
 use Rattle.sections.specs.Claims.{Sound, Each, Ascending}
 use Rattle.square.specs.Mutual.{mutualEntries, mutualBand}
@@ -29,6 +30,10 @@ OfSheet k = ((1 ≤ k) × (k ≤ 6)) ⊎ ((k ≡ 8) ⊎ (k ≡ 18))
 
 abbrev pub SheetNumbers : Type 0
 SheetNumbers = (s : List ℕ) → (sheetFault s ≡ 0) ⊎ OfSheet (sheetFault s)
+
+-- 18 exactly if nothing that comes before is wrong, and the third section is neither left out nor one of n joints
+abbrev pub ParentsRefused : Type 0
+ParentsRefused = (s : List ℕ) → sheetFault s ≡ 18 ↔ ((firstFault (take 7 (sheetFaults s)) ≡ 0) × (IsSection (joints s) (third s) → ⊥))
 
 -- an accepted sheet's entries, returned or not, are in range and ascend
 abbrev pub AcceptedEntries : Type 0

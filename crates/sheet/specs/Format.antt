@@ -1,12 +1,11 @@
 -- The sheet of documents 01 and 02: three sections, each after its count. The third may be left out.
-use mathlib.Core.Bool.{Bool}
 use mathlib.Core.List.{List}
 use Prim.Native.Nat.{ℕ, _+_, _*_}
 use lib.ListN.{getD, drop}
 use Rattle.sections.specs.declared.Entry.{Entry}
 use Rattle.sections.specs.Labels.{labelWidth, labelAt}
 use Rattle.sections.specs.Entries.{entryWidth, entriesFrom}
-use Rattle.parents.specs.Parents.{isThere, parentsIn}
+use Rattle.parents.specs.Parents.{parentsIn}
 
 -- joints: their count n, where the labels begin, and the part of the sheet with them
 abbrev pub joints : List ℕ → ℕ
@@ -35,12 +34,9 @@ rankingsPart s = drop (rankStart s) s
 abbrev pub rankEnd : List ℕ → ℕ
 rankEnd s = rankStart s + entryWidth * rankCount s
 
--- parents: the section with its count, which is there if bytes follow the rankings; whether it is; the parent bytes
+-- parents: the section with its count, which is there if bytes follow the rankings; and the parent bytes
 abbrev pub third : List ℕ → List ℕ
 third s = drop (rankEnd s) s
-
-abbrev pub hasParents : List ℕ → Bool
-hasParents s = isThere (third s)
 
 abbrev pub parentsOf : List ℕ → List ℕ
 parentsOf s = parentsIn (third s)

@@ -1,21 +1,20 @@
 -- Laws of the tests, one for each way that the code takes, and what they mean.
 use mathlib.Core.Path.{_≡_, refl, sym, _∙_}
-use mathlib.Core.Bool.{Bool, true, false, not, _&&_, _||_, or-true, or-false}
+use mathlib.Core.Bool.{true, false, _||_, or-true, or-false}
 use mathlib.Core.List.{List}
 use mathlib.Core.Logic.{_⊎_, inl, inr, _≢_}
 use Prim.Native.Nat.{ℕ, _≤_, _<_}
 use native.Mathlib.Omega.{arith}
-use lib.Dec.{eqb, ltb}
+use lib.Dec.{eqb}
 use lib.ListN.{length}
 use borrow.Author.Tests.{eqb-true, eq-eqb, ne-eqb, lt-ltb, ltb-true, not-true}
 use Rattle.base.proofs.Cases.{case, eq-ne}
 use Rattle.base.proofs.CountBelow.{counted}
 use Rattle.base.proofs.Lowest.{lowest-passes, some-passes}
 use Rattle.base.proofs.Tests as tests
-use Rattle.parents.specs.Parents.{parentOf, isRoot}
+use Rattle.parents.specs.Parents.{parentOf}
 use Rattle.matching.specs.Matchings.{partner}
 use Rattle.skeleton.specs.Following.{follows, isStray, strayCount, lowestStray}
-use Rattle.skeleton.specs.Plain.{Follows}
 use Rattle.skeleton.specs.Claims.{FollowsMeans}
 
 -- A PAIR, by the parents of its joints

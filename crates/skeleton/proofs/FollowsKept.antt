@@ -1,21 +1,21 @@
 -- What the call's answers promise, for every sheet s and offered pairing m.
 use mathlib.Core.Path.{_≡_, refl, sym, ap, subst, _∙_}
-use mathlib.Core.Bool.{Bool, true, false, not, _&&_}
+use mathlib.Core.Bool.{true, false, not}
 use mathlib.Core.List.{List, [], _∷_}
 use mathlib.Core.Logic.{_⊎_, inl, inr, _≢_, _↔_}
-use Prim.Native.Nat.{ℕ, zero, suc, _≤_, _<_}
+use Prim.Native.Nat.{ℕ, zero, suc, _≤_}
 use native.Mathlib.Omega.{arith}
 use lib.Dec.{ltb}
 use lib.ListN.{length}
-use borrow.Author.Tests.{eq-eqb, ne-eqb, lt-ltb, le-ltb, ltb-true}
+use borrow.Author.Tests.{lt-ltb, le-ltb, ltb-true}
 use Rattle.base.specs.Claims.{First}
 use Rattle.base.specs.Faults.{when, firstFault}
-use Rattle.base.proofs.Cases.{case, eq-ne, lt-ge, both-ways, unlike}
+use Rattle.base.proofs.Cases.{case, eq-ne, unlike}
 use Rattle.base.proofs.CountBelow.{count-le}
-use Rattle.base.proofs.Faults.{first-answered, first-none, first-holds, fault-here, fault-behind, fault-stops, fault-passes, last-fault, when-holds}
-use Rattle.base.proofs.Tests.{never, not-so, and-true}
-use Rattle.parents.specs.Parents.{parentOf, isThere, parentsIn}
-use Rattle.parents.specs.Claims.{Lower, OneEach}
+use Rattle.base.proofs.Faults.{first-answered, first-none, first-holds, fault-here, fault-behind, fault-stops, fault-passes, last-fault, when-holds, unless-none, unless-is, unless-other}
+use Rattle.base.proofs.Tests.{never, not-so}
+use Rattle.parents.specs.Parents.{parentOf, isThere}
+use Rattle.parents.specs.Claims.{Lower}
 use Rattle.sheet.specs.Format.{joints, third, parentsOf}
 use Rattle.sheet.specs.Refusals.{sheetFault}
 use Rattle.sheet.specs.Square.{at, squareOf, SquarePromise}
@@ -25,16 +25,17 @@ use Rattle.sheet.proofs.Numbers.{of-sheet-some, not-of-sheet, sheet-not, sheet-
 use Rattle.sheet.proofs.PromiseKept.{accepted-square}
 use Rattle.matching.specs.Matchings.{partner, isMatching, pairCount}
 use Rattle.matching.specs.Plain.{Matching}
-use Rattle.matching.proofs.MatchingTest.{is-matching-means, as-many}
+use Rattle.matching.proofs.MatchingTest.{is-matching-means}
 use Rattle.matching.proofs.PairCounts.{one-higher, paired-few}
 use Rattle.matching.proofs.PairNumbers.{pair-number-small}
 use Rattle.skeleton.specs.declared.Followed.{Followed}
 use Rattle.skeleton.specs.declared.Followed.the-variants as F
 use Rattle.skeleton.specs.Following.{isStray, strayCount, strayNumber}
 use Rattle.skeleton.specs.Plain.{Stray, LowestStray}
-use Rattle.skeleton.specs.Answers.{followed, ownFaults, followFaults, followedAs, followOf}
+use Rattle.skeleton.specs.Answers.{followed, followFaults, followedAs, followOf}
 use Rattle.skeleton.specs.Claims.{Judged, FollowKeeps, FollowsKept}
 use Rattle.skeleton.proofs.FollowLaws.{stray-is}
+use Rattle.skeleton.proofs.AnswerLaws.{all-follow, some-stray}
 use Rattle.skeleton.proofs.StrayRule.{strays-none, strays-lowest}
 use Rattle.skeleton.proofs.EqualDepth.{equal-depth}
 
@@ -55,16 +56,14 @@ lowest-in (F.Astray r) = r .lowest
 
 module _ (ps m : List ℕ) where
   none-stray : strayCount ps m ≡ 0 → followed ps m ≡ F.All
-  unfolding followed
-  none-stray e = rw (eq-eqb (strayCount ps m) 0 e)
+  none-stray e = sym (all-follow ps m e)
 
-  some-stray : strayCount ps m ≢ 0 → followed ps m ≡ astrayBy (strayCount ps m) (strayNumber ps m)
-  unfolding followed
-  some-stray ne = rw (ne-eqb (strayCount ps m) 0 ne)
+  counted-stray : strayCount ps m ≢ 0 → followed ps m ≡ astrayBy (strayCount ps m) (strayNumber ps m)
+  counted-stray ne = sym (some-stray ps m ne refl refl)
 
   followed-all : followed ps m ≡ F.All ↔ (strayCount ps m ≡ 0)
   followed-all = (
-    λ h. case (eq-ne (strayCount ps m) 0) (λ e. e) (λ ne. let i : astrayBy _ _ ≡ F.All = sym (some-stray ne) ∙ h in absurd (unlike cc)),
+    λ h. case (eq-ne (strayCount ps m) 0) (λ e. e) (λ ne. let i : astrayBy _ _ ≡ F.All = sym (counted-stray ne) ∙ h in absurd (unlike cc)),
     none-stray,
   )
 
@@ -74,17 +73,17 @@ module _ (ps m : List ℕ) where
     λ h. case (eq-ne (strayCount ps m) 0)
         (λ e. let i : F.All ≡ astrayBy k l = sym (none-stray e) ∙ h in absurd (unlike cc))
         (λ ne.
-        let i : astrayBy (strayCount ps m) (strayNumber ps m) ≡ astrayBy k l = sym (some-stray ne) ∙ h in
+        let i : astrayBy (strayCount ps m) (strayNumber ps m) ≡ astrayBy k l = sym (counted-stray ne) ∙ h in
         let e : strayCount ps m ≡ k = ap pairs-in i in
         let f : strayNumber ps m ≡ l = ap lowest-in i in
         (omega arith, sym e, sym f)),
-    λ h. some-stray (λ z. omega (arith, h .0, h .1)) ∙ rw (h .1, h .2) refl,
+    λ h. counted-stray (λ z. omega (arith, h .0, h .1)) ∙ rw (h .1, h .2) refl,
   )
 
   not-refused : (k : ℕ) → followed ps m ≡ F.Refused k → ⊥
   not-refused k h = case (eq-ne (strayCount ps m) 0)
       (λ e. let i : F.All ≡ F.Refused k = sym (none-stray e) ∙ h in unlike cc)
-      (λ ne. let i : astrayBy _ _ ≡ F.Refused k = sym (some-stray ne) ∙ h in unlike cc)
+      (λ ne. let i : astrayBy _ _ ≡ F.Refused k = sym (counted-stray ne) ∙ h in unlike cc)
 
 -- AN ANSWER by the first refusal and the pairs
 refused-says : (f k : ℕ) (pairs : Followed) → ((k : ℕ) → pairs ≡ F.Refused k → ⊥) → followedAs f pairs ≡ F.Refused k ↔ ((f ≡ k) × (1 ≤ k))
@@ -99,22 +98,6 @@ module _ (f : ℕ) (pairs x : Followed) (no-refusal : (k : ℕ) → x ≡ F.Refu
       go : (f : ℕ) → followedAs f pairs ≡ x ↔ ((f ≡ 0) × (pairs ≡ x))
       go zero = (λ h. (refl, h), λ h. h .1)
       go (suc k) = (λ h. absurd (no-refusal (suc k) (sym h)), λ h. absurd (omega arith))
-
--- a number or nothing, by a test that must hold
-abbrev unless : Bool → ℕ → ℕ
-unless b k = when (not b) k
-
-unless-none : (b : Bool) (k : ℕ) → unless b (suc k) ≡ 0 → b ≡ true
-unless-none true k h = refl
-unless-none false k h = absurd (omega arith)
-
-unless-is : (b : Bool) (k : ℕ) → unless b (suc k) ≡ suc k → b ≡ false
-unless-is true k h = absurd (omega arith)
-unless-is false k h = refl
-
-unless-not : (b : Bool) (j k : ℕ) → 1 ≤ k → j ≢ k → unless b j ≢ k
-unless-not true j k some ne e = omega arith
-unless-not false j k some ne e = ne e
 
 -- a refusal's number
 abbrev Number : ℕ → Type 0
@@ -147,10 +130,10 @@ module _ (s m : List ℕ) where
 
   -- the two behind the sheet's own
   abbrev eighteen : ℕ
-  eighteen = unless (isThere (third s)) 18
+  eighteen = when (not (isThere (third s))) 18
 
   abbrev ten : ℕ
-  ten = unless (isMatching n t m) 10
+  ten = when (not (isMatching n t m)) 10
 
   says : (k : ℕ) → followOf s m ≡ F.Refused k ↔ ((firstFault faults ≡ k) × (1 ≤ k))
   says k = refused-says (firstFault faults) k (followed ps m) (not-refused ps m)
@@ -197,13 +180,13 @@ module _ (s m : List ℕ) where
   by-sheet : (k : ℕ) → OfSheet k → k ≢ 18 → followOf s m ≡ F.Refused k ↔ (sheetFault s ≡ k)
   by-sheet k own ne =
       let some = of-sheet-some k own in
-      let x = unless-not (isThere (third s)) 18 k some (λ e. ne (sym e)) in
-      let y = unless-not (isMatching n t m) 10 k some (λ e. not-of-sheet k own (omega arith) (omega arith)) in
+      let x = unless-other (isThere (third s)) 18 k some (λ e. ne (sym e)) in
+      let y = unless-other (isMatching n t m) 10 k some (λ e. not-of-sheet k own (omega arith) (omega arith)) in
       answered k some (fault-here (sheetFault s) _ k some (first-holds (λ i. i ≢ k) eighteen _ x (rw (last-fault ten) y)))
 
   by-eighteen : followOf s m ≡ F.Refused 18 ↔ ((sheetFault s ≡ 18) ⊎ ((sheetFault s ≡ 0) × (third s ≡ [])))
   by-eighteen =
-      let last : firstFault (ten ∷ []) ≢ 18 = rw (last-fault ten) (unless-not (isMatching n t m) 10 18 (omega arith) (λ e. omega arith)) in
+      let last : firstFault (ten ∷ []) ≢ 18 = rw (last-fault ten) (unless-other (isMatching n t m) 10 18 (omega arith) (λ e. omega arith)) in
       let own = fault-here eighteen (ten ∷ []) 18 (omega arith) last in
       answered 18 (omega arith) (
         λ h. case (eq-ne (sheetFault s) 18) inl
@@ -219,7 +202,7 @@ module _ (s m : List ℕ) where
   by-ten : followOf s m ≡ F.Refused 10 ↔ ((sheetFault s ≡ 0) × (third s ≢ []) × ((length m ≡ n) × Matching n (at t) (partner m) → ⊥))
   by-ten =
       let sheet = fault-behind (sheetFault s) (eighteen ∷ ten ∷ []) 10 (sheet-not s 10 (omega arith) (omega arith)) in
-      let parents = fault-behind eighteen (ten ∷ []) 10 (unless-not (isThere (third s)) 18 10 (omega arith) (λ e. omega arith)) in
+      let parents = fault-behind eighteen (ten ∷ []) 10 (unless-other (isThere (third s)) 18 10 (omega arith) (λ e. omega arith)) in
       answered 10 (omega arith) (
         λ h.
             let r = sheet .0 h in

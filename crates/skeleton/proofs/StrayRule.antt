@@ -1,8 +1,8 @@
 -- Which pairs do not follow, and the lowest of them.
-use mathlib.Core.Path.{_≡_, refl, sym, ap, _∙_}
+use mathlib.Core.Path.{_≡_, refl, ap, _∙_}
 use mathlib.Core.Bool.{true, false}
 use mathlib.Core.List.{List}
-use Prim.Native.Nat.{ℕ, _≤_, _<_}
+use Prim.Native.Nat.{ℕ, _<_}
 use native.Mathlib.Omega.{arith}
 use lib.ListN.{length}
 use Rattle.base.proofs.Cases.{case, lt-ge, eq-ne}
@@ -10,7 +10,7 @@ use Rattle.base.proofs.CountBelow.{counted, count-one}
 use Rattle.base.proofs.Lowest.{lowest-below}
 use Rattle.base.proofs.Tests.{never, not-so}
 use Rattle.parents.specs.Parents.{parentOf}
-use Rattle.matching.specs.Matchings.{partner, pairNumber}
+use Rattle.matching.specs.Matchings.{partner}
 use Rattle.matching.proofs.PairNumbers.{pair-number-rises}
 use Rattle.skeleton.specs.Following.{follows, isStray, lowestStray}
 use Rattle.skeleton.specs.Plain.{Stray}

@@ -23,5 +23,5 @@ worked =
     refl & refl & refl & refl & refl & refl
     & refl & refl & refl & refl & refl
     & refl & refl & refl & refl & refl
-    & refl & refl & refl & refl
+    & refl & refl & refl & refl & refl
     & record {}

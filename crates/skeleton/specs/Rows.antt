@@ -74,7 +74,8 @@ rows =
     ∷ row (sheetOf 0 []) [] (Refused 18)
     ∷ row roots [] (Refused 10)
     ∷ row roots (1 ∷ 2 ∷ 1 ∷ []) (Refused 10)
-    -- the sheet's own first: a parent that is not lower, another count, the section cut short, bytes after it
+    -- the sheet's own first: a band of 128, and no parents; a parent that is not lower, another count, the section cut short, bytes after it
+    ∷ row (2 ∷ letters 2 ++ (1 ∷ 0 ∷ 0 ∷ 1 ∷ 128 ∷ [])) [] (Refused 5)
     ∷ row (sheetOf 3 (3 ∷ 255 ∷ 1 ∷ 255 ∷ [])) [] (Refused 18)
     ∷ row (sheetOf 3 (2 ∷ 255 ∷ 0 ∷ [])) [] (Refused 18)
     ∷ row (sheetOf 3 (3 ∷ 255 ∷ 0 ∷ [])) [] (Refused 1)

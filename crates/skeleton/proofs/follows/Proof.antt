@@ -1,7 +1,6 @@
 -- Each way out is a law of its own. The places: where the parents are known to differ, and where both are known to be there.
 use mathlib.Core.Path.{_≡_, refl, sym, _∙_}
 use mathlib.Core.Logic.{_≢_, inl, inr}
-use Prim.Native.Nat.{_<_}
 use native.Mathlib.Omega.{arith}
 use Rattle.parents.specs.Parents.{parentOf}
 use Rattle.parents.proofs.DepthRule.{parent-lower}

@@ -1,9 +1,7 @@
 -- No pair with a lower joint, or whether it follows decides.
-use mathlib.Core.Path.{_≡_}
 use native.Mathlib.Omega.{arith}
 use borrow.Author.Tests.{le-ltb, lt-ltb}
 use Rattle.skeleton.specs.Following.{isStray}
-use borrow.Author.Needs.{needs}
 use Rattle.skeleton.proofs.is_stray.Statement.{statement}
 use Rattle.skeleton.proofs.is_stray.Tie as tie
 
