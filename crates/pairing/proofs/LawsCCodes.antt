@@ -15,9 +15,8 @@ use Rattle.calls.specs.Checks.{checkOf}
 use Rattle.calls.specs.Calls.{settleAnswer, shortenAnswer, countsOf}
 use Rattle.promises.proofs.CallsKeep.{calls-keep}
 use Rattle.promises.proofs.CheckKeeps.{check-keeps}
-use Rattle.skeleton.specs.Answers.{followOf}
+use Rattle.skeleton.specs.Answers.{astrayBy, followOf}
 use Rattle.skeleton.proofs.FollowsKept.{follows-kept}
-use Rattle.pairing.specs.CCodes.{astrayBy}
 use Rattle.quote.specs.declared.Quoted.the-variants as Q
 use Rattle.quote.specs.Quotes.{quoteAnswer}
 use Rattle.quote.proofs.QuotesKept.{quotes-kept}

@@ -51,9 +51,6 @@ quotedCode (Q.None P.Two) = packed 0 2 0
 quotedCode (Q.Payable sum) = packed 0 3 sum
 
 -- The number of pairs that do not follow in the verdict's place, and the lowest of their numbers in the count's; both are 0 where all follow.
-abbrev pub astrayBy : ℕ → ℕ → Followed
-astrayBy pairs lowest = F.Astray (record { pairs = pairs; lowest = lowest })
-
 abbrev pub followedCode : Followed → ℕ
 followedCode (F.Refused k) = packed k 0 0
 followedCode F.All = packed 0 0 0

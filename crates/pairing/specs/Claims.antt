@@ -5,7 +5,8 @@ use Rattle.calls.specs.declared.Counts.{Counts}
 use Rattle.calls.specs.declared.Phase.the-variants as P
 use Rattle.quote.specs.declared.Quoted.the-variants as Q
 use Rattle.skeleton.specs.declared.Followed.the-variants as F
-use Rattle.pairing.specs.CCodes.{packed, countsCode, quotedCode, astrayBy, followedCode}
+use Rattle.skeleton.specs.Answers.{astrayBy}
+use Rattle.pairing.specs.CCodes.{packed, countsCode, quotedCode, followedCode}
 
 -- MIRROR_REFUSAL; MIRROR_VERDICT, MIRROR_HOLDS and MIRROR_ASTRAY; MIRROR_COUNT, MIRROR_PAIR and MIRROR_SUM
 abbrev pub PartsReadBack : Type 0

@@ -4,8 +4,8 @@ use crate::VERDICT;
 use skeleton::Followed;
 ghost use mathlib.Core.Path.{_≡_};
 ghost use Prim.Native.Nat.{ℕ, _<_};
-ghost use Rattle.skeleton.specs.Answers.{followOf};
-ghost use Rattle.pairing.specs.CCodes.{astrayBy, followedCode};
+ghost use Rattle.skeleton.specs.Answers.{astrayBy, followOf};
+ghost use Rattle.pairing.specs.CCodes.{followedCode};
 
 fn followed_code(answer: Followed) -> u32
     requires { ⌜ ((k l : ℕ) → answer ≡ astrayBy k l → (k < 256) × (l < 65536)) ⌝ }

@@ -67,7 +67,7 @@ pub record ListsAre (s before after : List ℕ) (k : ℕ) : Type 0 where
   -- each of them is returned
   pub returned : Each (λ e. 0 < bandIn (entriesOf s) (e .other) (e .joint)) (left (end .lists) (entriesOf s))
   -- a sheet with the same labels and these bytes as its rankings, and nothing or any parents after them, is accepted, with the lists left as its square
-  pub reads-back : (own : List ℕ) → IsSection (joints s) own → SheetWith s (end .lists) own (take (countStart s) s ++ (take (2 + 3 * k) after ++ own))
+  pub reads-back : (parents : List ℕ) → IsSection (joints s) parents → SheetWith s (end .lists) parents (take (countStart s) s ++ (take (2 + 3 * k) after ++ parents))
   pub at-most : k ≤ 128 * 127
   pub count-first : take 2 after ≡ (k % 256) ∷ ((k / 256) ∷ [])
   pub past : drop (2 + 3 * k) after ≡ drop (2 + 3 * k) before
@@ -215,4 +215,4 @@ SameRankings = (s r : List ℕ) → sheetFault s ≡ 0 → sheetFault r ≡ 0 �
 
 -- so they may be left out, put in or changed
 abbrev pub ParentsChanged : Type 0
-ParentsChanged = (s own : List ℕ) → sheetFault s ≡ 0 → IsSection (joints s) own → (sheetFault (withThird s own) ≡ 0) × ParentsUnseen s (withThird s own)
+ParentsChanged = (s parents : List ℕ) → sheetFault s ≡ 0 → IsSection (joints s) parents → (sheetFault (withThird s parents) ≡ 0) × ParentsUnseen s (withThird s parents)

@@ -242,7 +242,7 @@ rows =
     ∷ counts-row true (sheet-c ++ (2 ∷ 1 ∷ 255 ∷ [])) [] 18 0 0
     ∷ shorten-row (sheet-c ++ (1 ∷ 255 ∷ [])) (0 ∷ []) (buffer 7) (L.Refused 18) (buffer 7)
     ∷ check-row (sheet-c ++ (3 ∷ 255 ∷ 0 ∷ 1 ∷ [])) [] (C.Refused 18)
-    ∷ check-row (2 ∷ letters 2 ++ (1 ∷ 0 ∷ entry 1 0 128 (1 ∷ 255 ∷ []))) [] (C.Refused 5)
+    ∷ check-row (2 ∷ letters 2 ++ (2 ∷ 0 ∷ entry 0 1 1 (entry 0 1 1 (1 ∷ 255 ∷ [])))) [] (C.Refused 6)
     ∷ check-row (sheet-c ++ (2 ∷ 255 ∷ [])) [] (C.Refused 1)
     ∷ check-row (sheet-c ++ (2 ∷ 255 ∷ 0 ∷ 0 ∷ [])) [] (C.Refused 8)
     ∷ []

@@ -33,19 +33,19 @@ WrittenReturned = (s : List ℕ) (u : Square) → sheetFault s ≡ 0 → PairsSt
     → Each (λ e. 0 < bandIn (entriesOf s) (e .other) (e .joint)) (left u (entriesOf s))
 
 -- A sheet r that is accepted, with the joints and the labels of s, with the lists u as its square, and with a third section.
-pub record SheetWith (s : List ℕ) (u : Square) (own : List ℕ) (r : List ℕ) : Type 0 where
+pub record SheetWith (s : List ℕ) (u : Square) (parents : List ℕ) (r : List ℕ) : Type 0 where
   pub accepted : sheetFault r ≡ 0
   pub same-joints : joints r ≡ joints s
   pub same-labels : (i : ℕ) → i < joints s → labelOf r i ≡ labelOf s i
   pub count-left : rankCount r ≡ entryCount (joints s) u
   pub entries-left : entriesOf r ≡ left u (entriesOf s)
   pub same-square : squareOf r ≡ u
-  pub third-is : third r ≡ own
+  pub third-is : third r ≡ parents
 
 -- The sheet with the same labels and with shorten's bytes as its rankings is one, whether nothing follows them or parents for the joints.
 abbrev pub ReadsBack : Type 0
-ReadsBack = (s : List ℕ) (u : Square) (own : List ℕ) → sheetFault s ≡ 0 → PairsStruck (squareOf s) u → IsSection (joints s) own
-    → SheetWith s u own (relisted s u own)
+ReadsBack = (s : List ℕ) (u : Square) (parents : List ℕ) → sheetFault s ≡ 0 → PairsStruck (squareOf s) u → IsSection (joints s) parents
+    → SheetWith s u parents (relisted s u parents)
 
 -- So is the sheet without its one-sided entries, with the same square and third section; its entries are the mutual listings.
 abbrev pub WithoutSame : Type 0
@@ -53,13 +53,13 @@ WithoutSame = (s : List ℕ) → sheetFault s ≡ 0
     → SheetWith s (squareOf s) (third s) (without s) × (entriesOf (without s) ≡ mutualEntries (entriesOf s))
 
 -- A sheet r that is accepted, with the joints, the labels and the rankings of s, and with a third section.
-pub record SheetBut (s own r : List ℕ) : Type 0 where
+pub record SheetBut (s parents r : List ℕ) : Type 0 where
   pub accepted : sheetFault r ≡ 0
   pub same-joints : joints r ≡ joints s
   pub same-labels : (i : ℕ) → i < joints s → labelOf r i ≡ labelOf s i
   pub same-entries : entriesOf r ≡ entriesOf s
-  pub third-is : third r ≡ own
+  pub third-is : third r ≡ parents
 
 -- Parents may be left out, put in or changed.
 abbrev pub OtherParents : Type 0
-OtherParents = (s own : List ℕ) → sheetFault s ≡ 0 → IsSection (joints s) own → SheetBut s own (withThird s own)
+OtherParents = (s parents : List ℕ) → sheetFault s ≡ 0 → IsSection (joints s) parents → SheetBut s parents (withThird s parents)

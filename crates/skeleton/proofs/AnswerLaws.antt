@@ -21,7 +21,7 @@ use Rattle.matching.specs.Matchings.{isMatching}
 use Rattle.skeleton.specs.declared.Followed.{Followed}
 use Rattle.skeleton.specs.declared.Followed.the-variants as F
 use Rattle.skeleton.specs.Following.{strayCount, strayNumber}
-use Rattle.skeleton.specs.Answers.{followed, ownFaults, followFaults, followedAs, followOf}
+use Rattle.skeleton.specs.Answers.{astrayBy, followed, ownFaults, followLists, followFaults, followedAs, followOf}
 
 -- THE PAIRS
 module _ (ps m : List ℕ) where
@@ -30,7 +30,7 @@ module _ (ps m : List ℕ) where
   all-follow e = rw (eq-eqb (strayCount ps m) 0 e)
 
   pub some-stray : strayCount ps m ≢ 0 → {k l : ℕ} → k ≡ strayCount ps m → l ≡ strayNumber ps m
-      → F.Astray (record { pairs = k; lowest = l }) ≡ followed ps m
+      → astrayBy k l ≡ followed ps m
   unfolding followed
   some-stray ne e f = rw (ne-eqb (strayCount ps m) 0 ne, e, f)
 
@@ -41,10 +41,7 @@ refused-as (suc f) k pairs e h = ap F.Refused (sym e)
 
 -- OVER LISTS: 18, 10, or the pairs
 module _ (n : ℕ) (t : List (List ℕ)) (own m : List ℕ) where
-  abbrev answer : Followed
-  answer = followedAs (firstFault (ownFaults n t own m)) (followed (parentsIn own) m)
-
-  pub eighteen : length own ≡ 0 → F.Refused 18 ≡ answer
+  pub eighteen : length own ≡ 0 → F.Refused 18 ≡ followLists n t own m
   eighteen e =
       let first : firstFault (ownFaults n t own m) ≡ 18 = rw (le-ltb 0 (length own) (omega arith)) (fault-stops 18 _ (λ z. omega arith)) in
       refused-as _ 18 (followed (parentsIn own) m) first (omega arith)
@@ -53,12 +50,12 @@ module _ (n : ℕ) (t : List (List ℕ)) (own m : List ℕ) where
     is-there : ltb 0 (length own) ≡ true
     is-there = lt-ltb 0 (length own) (omega arith)
 
-    pub ten : isMatching n t m ≡ false → F.Refused 10 ≡ answer
+    pub ten : isMatching n t m ≡ false → F.Refused 10 ≡ followLists n t own m
     ten e =
         let first : firstFault (ownFaults n t own m) ≡ 10 = rw (is-there, e) (fault-passes 0 _ refl ∙ last-fault 10) in
         refused-as _ 10 (followed (parentsIn own) m) first (omega arith)
 
-    pub judged : isMatching n t m ≡ true → {r : Followed} → r ≡ followed (parentsIn own) m → r ≡ answer
+    pub judged : isMatching n t m ≡ true → {r : Followed} → r ≡ followed (parentsIn own) m → r ≡ followLists n t own m
     judged e h =
         let none : firstFault (ownFaults n t own m) ≡ 0 = rw (is-there, e) (fault-passes 0 _ refl ∙ last-fault 0) in
         rw none h
@@ -75,7 +72,7 @@ module _ (s m : List ℕ) where
     pub own-section : IsSection (parts .joints) own
     own-section = rw (is, known .read .n-joints) (accepted-parents s (known .read .faultless))
 
-    pub sheet-accepted : {r : Followed} → r ≡ followedAs (firstFault (ownFaults (parts .joints) t own m)) (followed (parentsIn own) m) → r ≡ followOf s m
+    pub sheet-accepted : {r : Followed} → r ≡ followLists (parts .joints) t own m → r ≡ followOf s m
     sheet-accepted h =
         (rw (is, known .square, known .read .n-joints) at h)
         ∙ ap (λ (k : ℕ). followedAs k (followed (parentsIn (third s)) m)) (sym (fault-passes (sheetFault s) _ (known .read .faultless)))

@@ -32,7 +32,7 @@ use Rattle.skeleton.specs.declared.Followed.{Followed}
 use Rattle.skeleton.specs.declared.Followed.the-variants as F
 use Rattle.skeleton.specs.Following.{isStray, strayCount, strayNumber}
 use Rattle.skeleton.specs.Plain.{Stray, LowestStray}
-use Rattle.skeleton.specs.Answers.{followed, followFaults, followedAs, followOf}
+use Rattle.skeleton.specs.Answers.{astrayBy, followed, followFaults, followedAs, followOf}
 use Rattle.skeleton.specs.Claims.{Judged, FollowKeeps, FollowsKept}
 use Rattle.skeleton.proofs.FollowLaws.{stray-is}
 use Rattle.skeleton.proofs.AnswerLaws.{all-follow, some-stray}
@@ -40,9 +40,6 @@ use Rattle.skeleton.proofs.StrayRule.{strays-none, strays-lowest}
 use Rattle.skeleton.proofs.EqualDepth.{equal-depth}
 
 -- THE PAIRS, by how many do not follow
-abbrev astrayBy : ℕ → ℕ → Followed
-astrayBy k l = F.Astray (record { pairs = k; lowest = l })
-
 -- the numbers that such an answer has
 pairs-in : Followed → ℕ
 pairs-in (F.Refused k) = 0

@@ -13,21 +13,29 @@ use Rattle.skeleton.specs.declared.Followed.{Followed}
 use Rattle.skeleton.specs.declared.Followed.the-variants.{Refused, All, Astray}
 use Rattle.skeleton.specs.Following.{strayCount, strayNumber}
 
--- all pairs follow; or so many do not, and the lowest of their numbers
+-- so many pairs do not follow, and the lowest of their numbers
+abbrev pub astrayBy : ℕ → ℕ → Followed
+astrayBy pairs lowest = Astray (record { pairs = pairs; lowest = lowest })
+
+-- all pairs follow, or not
 unfoldable pub followed : List ℕ → List ℕ → Followed
-followed ps m = cond (eqb (strayCount ps m) 0) All (Astray (record { pairs = strayCount ps m; lowest = strayNumber ps m }))
+followed ps m = cond (eqb (strayCount ps m) 0) All (astrayBy (strayCount ps m) (strayNumber ps m))
 
--- its refusals in their order: the sheet's own, 18 for a sheet without parents, then 10 for what is no matching
-abbrev pub ownFaults : ℕ → List (List ℕ) → List ℕ → List ℕ → List ℕ
-ownFaults n t parents m = when (not (isThere parents)) 18 ∷ when (not (isMatching n t m)) 10 ∷ []
-
-abbrev pub followFaults : List ℕ → List ℕ → List ℕ
-followFaults s m = sheetFault s ∷ ownFaults (joints s) (squareOf s) (third s) m
-
--- by the first of them, and the pairs
+-- by the first of its refusals, 0 for none
 abbrev pub followedAs : ℕ → Followed → Followed
 followedAs zero pairs = pairs
 followedAs (suc k) pairs = Refused (suc k)
+
+-- over n joints' lists t and a third section: 18 for one that is left out, then 10 for what is no matching
+abbrev pub ownFaults : ℕ → List (List ℕ) → List ℕ → List ℕ → List ℕ
+ownFaults n t parents m = when (not (isThere parents)) 18 ∷ when (not (isMatching n t m)) 10 ∷ []
+
+abbrev pub followLists : ℕ → List (List ℕ) → List ℕ → List ℕ → Followed
+followLists n t parents m = followedAs (firstFault (ownFaults n t parents m)) (followed (parentsIn parents) m)
+
+-- over a sheet, whose own refusals come first
+abbrev pub followFaults : List ℕ → List ℕ → List ℕ
+followFaults s m = sheetFault s ∷ ownFaults (joints s) (squareOf s) (third s) m
 
 abbrev pub followOf : List ℕ → List ℕ → Followed
 followOf s m = followedAs (firstFault (followFaults s m)) (followed (parentsIn (third s)) m)

@@ -18,7 +18,7 @@ use Rattle.matching.specs.Plain.{Matching}
 use Rattle.skeleton.specs.declared.Followed.the-variants as F
 use Rattle.skeleton.specs.Following.{follows, strayCount, strayNumber}
 use Rattle.skeleton.specs.Plain.{Follows, Stray, LowestStray}
-use Rattle.skeleton.specs.Answers.{followFaults, followOf}
+use Rattle.skeleton.specs.Answers.{astrayBy, followFaults, followOf}
 
 abbrev pub FollowsMeans : Type 0
 FollowsMeans = (ps m : List ℕ) (a b : ℕ) → follows ps m a b ≡ true ↔ Follows (parentOf ps) (partner m) a b
@@ -54,9 +54,9 @@ pub record FollowKeeps (s m : List ℕ) : Type 0 where
       ↔ ((sheetFault s ≡ 0) × (third s ≢ []) × ((length m ≡ joints s) × Matching (joints s) (at (squareOf s)) (partner m) → ⊥))
   -- all pairs follow; or so many do not, no more than there are, and the number is the lowest of one
   pub all : followOf s m ≡ F.All ↔ (Judged s m × ((a b : ℕ) → Stray (joints s) (parentOf (parentsOf s)) (partner m) a b → ⊥))
-  pub astray : (k l : ℕ) → followOf s m ≡ F.Astray (record { pairs = k; lowest = l })
+  pub astray : (k l : ℕ) → followOf s m ≡ astrayBy k l
       ↔ (Judged s m × (1 ≤ k) × (k ≡ strayCount (parentsOf s) m) × LowestStray (joints s) (parentOf (parentsOf s)) (partner m) l)
-  pub few : (k l : ℕ) → followOf s m ≡ F.Astray (record { pairs = k; lowest = l }) → (k ≤ pairCount m) × (k ≤ 64) × (l ≤ 8127)
+  pub few : (k l : ℕ) → followOf s m ≡ astrayBy k l → (k ≤ pairCount m) × (k ≤ 64) × (l ≤ 8127)
   -- where all follow, paired joints have equal depth
   pub equal-depth : followOf s m ≡ F.All → DepthsAgree (joints s) (parentsOf s) (partner m)
 

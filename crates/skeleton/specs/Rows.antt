@@ -7,8 +7,8 @@ use lib.Dec.{eqb}
 use lib.ListN.{length, replicate}
 use Rattle.base.specs.Below.{joined}
 use Rattle.skeleton.specs.declared.Followed.{Followed}
-use Rattle.skeleton.specs.declared.Followed.the-variants.{Refused, All, Astray}
-use Rattle.skeleton.specs.Answers.{followOf}
+use Rattle.skeleton.specs.declared.Followed.the-variants.{Refused, All}
+use Rattle.skeleton.specs.Answers.{astrayBy, followOf}
 
 -- A ROW: a sheet, a pairing, and the answer.
 pub record Row : Type 0 where
@@ -21,9 +21,6 @@ row s m answer = record { sheet = s; pairing = m; answer = answer }
 
 abbrev pub Holds : Row → Type 0
 Holds r = followOf (r .sheet) (r .pairing) ≡ r .answer
-
-abbrev pub astray : ℕ → ℕ → Followed
-astray pairs lowest = Astray (record { pairs = pairs; lowest = lowest })
 
 -- n joints a, b, c and so on, who all list each other in band 1, and a third section
 abbrev pub letters : ℕ → List ℕ
@@ -54,20 +51,20 @@ rows =
     -- arms and hands: parents that are one joint, and parents that are paired together
     row arms (255 ∷ 2 ∷ 1 ∷ 4 ∷ 3 ∷ []) All
     -- the hands alone: their parents are not paired; a hand with the other arm, twice, and the lower number is that of 2 and 3
-    ∷ row arms (255 ∷ 255 ∷ 255 ∷ 4 ∷ 3 ∷ []) (astray 1 9)
-    ∷ row arms (255 ∷ 4 ∷ 3 ∷ 2 ∷ 1 ∷ []) (astray 2 5)
+    ∷ row arms (255 ∷ 255 ∷ 255 ∷ 4 ∷ 3 ∷ []) (astrayBy 1 9)
+    ∷ row arms (255 ∷ 4 ∷ 3 ∷ 2 ∷ 1 ∷ []) (astrayBy 2 5)
     -- the hips with an arm, and the hands: two pairs, the lower number is that of 0 and 2
-    ∷ row arms (2 ∷ 255 ∷ 0 ∷ 4 ∷ 3 ∷ []) (astray 2 1)
+    ∷ row arms (2 ∷ 255 ∷ 0 ∷ 4 ∷ 3 ∷ []) (astrayBy 2 1)
     -- nobody is paired; no joint
     ∷ row arms (255 ∷ 255 ∷ 255 ∷ 255 ∷ 255 ∷ []) All
     ∷ row (sheetOf 0 (0 ∷ [])) [] All
     -- two roots follow; a root and the child of a root that is unpaired do not, nor do a root and its own child
     ∷ row roots (2 ∷ 255 ∷ 0 ∷ []) All
-    ∷ row roots (255 ∷ 2 ∷ 1 ∷ []) (astray 1 2)
-    ∷ row roots (1 ∷ 0 ∷ 255 ∷ []) (astray 1 0)
+    ∷ row roots (255 ∷ 2 ∷ 1 ∷ []) (astrayBy 1 2)
+    ∷ row roots (1 ∷ 0 ∷ 255 ∷ []) (astrayBy 1 0)
     -- the children of two roots follow if the roots are paired
     ∷ row two-roots (1 ∷ 0 ∷ 3 ∷ 2 ∷ []) All
-    ∷ row two-roots (255 ∷ 255 ∷ 3 ∷ 2 ∷ []) (astray 1 5)
+    ∷ row two-roots (255 ∷ 255 ∷ 3 ∷ 2 ∷ []) (astrayBy 1 5)
     -- 18 for a sheet without parents, before 10; 10 for what is no matching
     ∷ row (sheetOf 3 []) (255 ∷ 255 ∷ 255 ∷ []) (Refused 18)
     ∷ row (sheetOf 3 []) [] (Refused 18)

@@ -8,11 +8,9 @@ use sheet::Reading;
 ghost use mathlib.Core.Path.{_≡_};
 ghost use Prim.Native.Nat.{_≤_, _<_};
 ghost use lib.ListN.{length};
-ghost use Rattle.base.specs.Faults.{firstFault};
-ghost use Rattle.parents.specs.Parents.{parentsIn};
 ghost use Rattle.parents.specs.Claims.{Lower, IsSection};
 ghost use Rattle.skeleton.specs.Following.{follows, isStray, strayCount, lowestStray};
-ghost use Rattle.skeleton.specs.Answers.{followed, ownFaults, followedAs, followOf};
+ghost use Rattle.skeleton.specs.Answers.{followed, followLists, followOf};
 
 // The pairs that do not follow: how many they are, and the lowest of their numbers.
 pub struct Strays {
@@ -112,7 +110,7 @@ fn judge(parents: &[u8], pairing: &[u8]) -> Followed
 // Judges an offered pairing over an accepted sheet's joints, square and third section.
 fn follow_lists(joints: usize, bands: &[[u8; 128]; 128], third: &[u8], pairing: &[u8]) -> Followed
     requires { ⌜ (joints ≤ 128) × IsSection joints (now third) ⌝ }
-    ensures { λ r. ⌜ r ≡ followedAs (firstFault (ownFaults joints (now (bands .entry)) (now (third .entry)) (now (pairing .entry)))) (followed (parentsIn (now (third .entry))) (now (pairing .entry))) ⌝ }
+    ensures { λ r. ⌜ r ≡ followLists joints (now (bands .entry)) (now (third .entry)) (now (pairing .entry)) ⌝ }
 {
     if third.len() == 0 {
         return Followed::Refused(18);
