@@ -1,7 +1,6 @@
 -- The calls' answers and buffers, one law for each way that the code takes.
 use mathlib.Core.Path.{_≡_, refl, sym, ap, _∙_}
-use mathlib.Core.Bool.{Bool, true, false, not, cond}
-use mathlib.Core.Option.{Option}
+use mathlib.Core.Bool.{Bool, false}
 use mathlib.Core.List.{List, _∷_, _++_}
 use Prim.Native.Nat.{ℕ, zero, suc, _+_, _*_, _≤_, _<_}
 use native.Mathlib.Omega.{arith}
@@ -9,18 +8,13 @@ use native.Mathlib.Nat.{mul-le-mul}
 use lib.ListN.{length, take}
 use lib.Seq.{take-at}
 use borrow.Author.Tests.{lt-ltb, le-ltb}
-use Rattle.base.specs.Faults.{when, firstFault}
+use Rattle.base.specs.Faults.{firstFault}
 use Rattle.base.proofs.Faults.{fault-stops, fault-passes, last-fault}
 use Rattle.sheet.specs.Format.{joints, rankCount}
 use Rattle.sheet.specs.Refusals.{sheetFault}
 use Rattle.sheet.specs.Square.{squareOf, SquarePromise}
 use Rattle.sheet.specs.declared.Parts.{Parts}
 use Rattle.sheet.proofs.ReadAs.{ReadAs, ListsAs}
-use Rattle.blocking.specs.declared.Checked.{Checked}
-use Rattle.blocking.specs.declared.Checked.the-variants as C
-use Rattle.blocking.specs.Blocking.{blockingPair}
-use Rattle.blocking.specs.Answers.{verdictOf, offerOf}
-use Rattle.matching.specs.Matchings.{isMatching}
 use Rattle.roommates.specs.Lists.{Square}
 use Rattle.roommates.specs.declared.Stage.{Stage}
 use Rattle.roommates.specs.Moves.{Outcome}
@@ -39,7 +33,6 @@ use Rattle.stages.specs.Places.{outcomeAt}
 use Rattle.calls.specs.declared.Settled.{Settled}
 use Rattle.calls.specs.declared.Shortened.{Shortened}
 use Rattle.calls.specs.declared.Counts.{Counts}
-use Rattle.calls.specs.Checks.{checkFaults, checkedAs, checkOf}
 use Rattle.calls.specs.Calls.{Says, settleSays, shortenSays, onSheet, settleCall, shortenCall, endedAs, listedAs}
 use Rattle.calls.specs.Calls.{settledBy, shortenedBy, resultOver, leftBy, counts, endCounts, countsAs, countsOf}
 use Rattle.sheet.proofs.Sizes.{accepted-sizes}
@@ -146,26 +139,6 @@ module _ (whole : Bool) (s cs : List ℕ) where
   pub counts-accepted : sheetFault s ≡ 0 → {r : Counts} → r ≡ endCounts end → r ≡ countsOf whole s cs
   counts-accepted f h = rw (last-fault (sheetFault s), f) h
 
--- CHECK: a refused sheet's number, or what the offered pairing is worth
-checked-stops : (k : ℕ) (o : Option ℕ) → 1 ≤ k → checkedAs k o ≡ C.Refused k
-checked-stops zero o h = absurd (omega arith)
-checked-stops (suc k) o h = refl
-
-pub check-refused : (s m : List ℕ) {k : ℕ} → (sheetFault s ≡ k) × (1 ≤ k) → C.Refused k ≡ checkOf s m
-check-refused s m {k} h =
-    let e : firstFault (checkFaults s m) ≡ k = fault-stops (sheetFault s) _ (λ z. omega (arith, h .0, h .1)) ∙ h .0 in
-    rw e (sym (checked-stops k _ (h .1)))
-
-offer-is : (b : Bool) (o : Option ℕ) → cond b (verdictOf o) (C.Refused 10) ≡ checkedAs (when (not b) 10) o
-offer-is true o = refl
-offer-is false o = refl
-
-pub check-accepted : (s m : List ℕ) {answer : Checked} → sheetFault s ≡ 0 → answer ≡ offerOf (joints s) (squareOf s) m → answer ≡ checkOf s m
-unfolding offerOf
-check-accepted s m f h =
-    let e : firstFault (checkFaults s m) ≡ when (not (isMatching (joints s) (squareOf s) m)) 10 = fault-passes (sheetFault s) _ f ∙ last-fault _ in
-    rw e (h ∙ offer-is (isMatching (joints s) (squareOf s) m) (blockingPair (joints s) (squareOf s) m))
-
 -- .. as the front door opened it: with its parts, and the square t filled
 module _ (s : List ℕ) (parts : Parts) (t : Square) (known : ListsAs s parts t) where
   abbrev read : ReadAs s parts
@@ -188,9 +161,6 @@ module _ (s : List ℕ) (parts : Parts) (t : Square) (known : ListsAs s parts t)
 
   pub counts-read : (whole : Bool) (cs : List ℕ) {r : Counts} → r ≡ endCounts (workedBy whole (parts .joints) t cs) → r ≡ countsOf whole s cs
   counts-read whole cs h = counts-accepted whole s cs (read .faultless) (rw (known .square, read .n-joints) at h)
-
-  pub check-read : (m : List ℕ) {r : Checked} → r ≡ offerOf (parts .joints) t m → r ≡ checkOf s m
-  check-read m h = check-accepted s m (read .faultless) (rw (known .square, read .n-joints) at h)
 
 -- HOW MUCH there is to write and to count
 -- the writer's count, taken from the bytes that it wrote

@@ -1,5 +1,4 @@
-// The calls settle, shorten, counts and check over a sheet's bytes.
-pub mod checking;
+// The calls settle, shorten and counts over a sheet's bytes.
 pub mod counting;
 pub mod settling;
 pub mod shortening;

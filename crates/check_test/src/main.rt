@@ -2,7 +2,7 @@
 // beside a reference written straight from the definition; and the number of every pair of 128 joints, counted one after another.
 use base::wide;
 use blocking::Checked;
-use calls::checking::check;
+use offered::check;
 use reference::BLOCKED;
 use reference::STABLE;
 use reference::one;

@@ -11,7 +11,7 @@ use Rattle.blocking.specs.declared.Checked.the-variants as K
 use Rattle.calls.specs.declared.End.the-variants as E
 use Rattle.calls.specs.declared.Settled.the-variants as S
 use Rattle.calls.specs.declared.Shortened.the-variants as L
-use Rattle.calls.specs.Checks.{checkOf}
+use Rattle.offered.specs.Checks.{checkOf}
 use Rattle.calls.specs.Calls.{settleAnswer, shortenAnswer, countsOf}
 use Rattle.promises.proofs.CallsKeep.{calls-keep}
 use Rattle.promises.proofs.CheckKeeps.{check-keeps}

@@ -4,7 +4,7 @@ use crate::VERDICT;
 use blocking::Checked;
 ghost use mathlib.Core.Path.{_≡_};
 ghost use Prim.Native.Nat.{ℕ, _<_};
-ghost use Rattle.calls.specs.Checks.{checkOf};
+ghost use Rattle.offered.specs.Checks.{checkOf};
 ghost use Rattle.pairing.specs.CCodes.{checkedCode};
 
 fn checked_code(answer: Checked) -> u32
@@ -23,5 +23,5 @@ fn checked_code(answer: Checked) -> u32
 pub extern "C" fn mirror_check(sheet: &[u8], pairing: &[u8]) -> u32
     ensures { λ r. ⌜ r ≡ checkedCode (checkOf (now (sheet .entry)) (now (pairing .entry))) ⌝ }
 {
-    checked_code(calls::checking::check(sheet, pairing))
+    checked_code(offered::check(sheet, pairing))
 }

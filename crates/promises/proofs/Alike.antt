@@ -19,7 +19,7 @@ use Rattle.blocking.specs.Blocking.{blockingPair}
 use Rattle.roommates.specs.Lists.{Square}
 use Rattle.records.specs.Records.{workedBy}
 use Rattle.relisting.proofs.OtherParents.{other-parents}
-use Rattle.calls.specs.Checks.{checkedAs, checkOf}
+use Rattle.offered.specs.Checks.{checkedAs, checkOf}
 use Rattle.calls.specs.Calls.{Says, settledBy, shortenedBy, leftBy, settleSays, shortenSays, settleAnswer, settleBytes, shortenAnswer, shortenBytes, endCounts, countsOf}
 use Rattle.promises.specs.Claims.{SameAnswers, ShortenedAlike, SameRankings, ParentsChanged}
 

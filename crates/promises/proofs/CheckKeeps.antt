@@ -25,7 +25,7 @@ use Rattle.blocking.specs.Answers.{verdictOf}
 use Rattle.matching.proofs.MatchingTest.{is-matching-means}
 use Rattle.blocking.proofs.LowestPair.{blocking-pair-lowest}
 use Rattle.blocking.proofs.SuperStableTest.{is-super-stable-means, super-stable-parts}
-use Rattle.calls.specs.Checks.{checkFaults, checkedAs, checkOf}
+use Rattle.offered.specs.Checks.{checkFaults, checkedAs, checkOf}
 use Rattle.promises.specs.Claims.{CheckKeeps}
 use Rattle.sheet.specs.Claims.{OfSheet}
 use Rattle.sheet.proofs.Numbers.{of-sheet-some, not-of-sheet, sheet-not, sheet-numbers}

@@ -18,7 +18,7 @@ use Rattle.roommates.proofs.EntriesListed.{all-listed, pairs-half}
 use Rattle.relisting.specs.Written.{without}
 use Rattle.relisting.specs.Claims.{SheetWith}
 use Rattle.relisting.proofs.Rereading.{without-same}
-use Rattle.calls.specs.Checks.{checkOf}
+use Rattle.offered.specs.Checks.{checkOf}
 use Rattle.promises.specs.Claims.{Unlisted}
 use Rattle.promises.proofs.Alike.{same-answers, shorten-roomy}
 use Rattle.promises.proofs.CheckKeeps.{check-keeps}

@@ -34,7 +34,7 @@ use Rattle.calls.specs.declared.Phase.{Phase}
 use Rattle.calls.specs.declared.End.{End}
 use Rattle.calls.specs.declared.End.the-variants as E
 use Rattle.calls.specs.declared.Settled.the-variants as S
-use Rattle.calls.specs.Checks.{checkOf}
+use Rattle.offered.specs.Checks.{checkOf}
 use Rattle.calls.specs.Calls.{settledNumber, partnersOf, settleCall, endedAs, settleAnswer, settleBytes, countsAs, countsOf}
 use Rattle.promises.specs.Claims.{Super, PairingIs, Refuses}
 use Rattle.calls.proofs.Answers.{Fair, settled-number, settled-says, settled-paired, settled-none, unwritten, unpaired-unwritten}

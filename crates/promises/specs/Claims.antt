@@ -31,7 +31,7 @@ use Rattle.records.specs.Standing.{standing, stepBytes}
 use Rattle.records.specs.Claims.{RecordRefused, BytesRefused}
 use Rattle.relisting.specs.Written.{left, bytesOf, countBytes, without, withThird}
 use Rattle.relisting.specs.Claims.{SheetWith}
-use Rattle.calls.specs.Checks.{checkFaults, checkOf}
+use Rattle.offered.specs.Checks.{checkFaults, checkOf}
 use Rattle.calls.specs.declared.Phase.{Phase}
 use Rattle.calls.specs.declared.Phase.the-variants as P
 use Rattle.calls.specs.declared.End.the-variants as E

@@ -11,7 +11,7 @@ use Rattle.base.specs.Below.{joined}
 use Rattle.blocking.specs.declared.Checked.{Checked}
 use Rattle.blocking.specs.declared.Checked.the-variants as C
 use Rattle.records.specs.Standing.{stepBytes}
-use Rattle.calls.specs.Checks.{checkOf}
+use Rattle.offered.specs.Checks.{checkOf}
 use Rattle.calls.specs.declared.Phase.the-variants as P
 use Rattle.calls.specs.declared.End.the-variants as E
 use Rattle.calls.specs.declared.Settled.{Settled}

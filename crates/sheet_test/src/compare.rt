@@ -4,6 +4,8 @@ use crate::words::number_of;
 use crate::words::part;
 use sheet::Parts;
 use sheet::Reading;
+use skeleton::Followed;
+use skeleton::follow;
 ghost use Prim.Native.Nat.{_≤_};
 
 // The places of a square, and what they hold before a sheet is read: no band.
@@ -34,9 +36,26 @@ fn says(text: &[u8], k: usize, number: usize) -> bool {
     number_of(part(text, b' ', k)) == number
 }
 
-// What is said of a refused sheet: AGREES for the number that is expected, and the square as it was.
-fn refused_as(line: &[u8], number: u8, bands: &[[u8; 128]; 128]) -> u8 {
+// What follow answers where nobody of n joints is paired: a refusal's number, 0 if all pairs follow.
+fn follow_alone(sheet: &[u8], n: usize) -> u8 {
+    let alone = [255u8; 128];
+    if 128 < n {
+        return AGREES;
+    }
+    let answer = follow(sheet, &alone[0..n]);
+    match answer {
+        Followed::Refused(number) => number,
+        Followed::All => 0,
+        Followed::Astray(_) => AGREES,
+    }
+}
+
+// What is said of a refused sheet: AGREES for the number that is expected, of follow too, and the square as it was.
+fn refused_as(sheet: &[u8], line: &[u8], number: u8, bands: &[[u8; 128]; 128]) -> u8 {
     if count_places(bands, MARK) < PLACES {
+        return number;
+    }
+    if follow_alone(sheet, 0) != number {
         return number;
     }
     if says(part(line, b';', 1), 0, base::wide(number)) {
@@ -114,14 +133,23 @@ fn checks_hold(sheet: &[u8], bands: &[[u8; 128]; 128], claims: &[u8]) -> bool {
     true
 }
 
-// What is said of an accepted sheet: AGREES for the parts that are expected, as many places of the square with a band, and checks that
-// hold.
+// Nobody paired follows, if the sheet has a third section, and else it is missed.
+fn followed_so(sheet: &[u8], parts: Parts) -> bool {
+    let due = if parts.parents < sheet.len() { 0 } else { 18 };
+    follow_alone(sheet, parts.joints) == due
+}
+
+// What is said of an accepted sheet: AGREES for the parts that are expected, as many places of the square with a band, what follow answers,
+// and checks that hold.
 fn accepted_as(sheet: &[u8], parts: Parts, bands: &[[u8; 128]; 128], line: &[u8]) -> u8 {
     let expected = part(line, b';', 1);
     if !accepted_so(expected, parts) {
         return 0;
     }
     if !says(expected, 6, PLACES - count_places(bands, 0)) {
+        return 0;
+    }
+    if !followed_so(sheet, parts) {
         return 0;
     }
     if checks_hold(sheet, bands, part(line, b';', 3)) {
@@ -135,7 +163,7 @@ pub(crate) fn read_as(sheet: &[u8], line: &[u8]) -> u8 {
     let mut bands = [[MARK; 128]; 128];
     let found = sheet::lists(sheet, &mut bands);
     match found {
-        Reading::Refused(number) => refused_as(line, number, &bands),
+        Reading::Refused(number) => refused_as(sheet, line, number, &bands),
         Reading::Accepted(parts) => accepted_as(sheet, parts, &bands, line),
     }
 }

@@ -1,4 +1,4 @@
-// Reads the sheets of standard input and compares each answer with the expected one. A line is a case:
+// Reads the sheets of standard input, asks follow with nobody paired, and compares each answer with the expected one. A line is a case:
 //
 //   name;expected;words of the sheet;checks
 //

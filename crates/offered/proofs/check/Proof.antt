@@ -1,10 +1,9 @@
 -- A refused sheet's number, or what its joints and lists give.
 use borrow.Author.Needs.{needs}
 use Rattle.sheet.proofs.ReadAs.{lists-as, lists-refused}
-use Rattle.calls.proofs.LawsCalls.{check-read}
-use Rattle.calls.proofs.LawsCalls.{check-refused}
-use Rattle.calls.proofs.checking.check.Statement.{statement}
-use Rattle.calls.proofs.checking.check.Tie as tie
+use Rattle.offered.proofs.LawsChecks.{check-read, check-refused}
+use Rattle.offered.proofs.check.Statement.{statement}
+use Rattle.offered.proofs.check.Tie as tie
 
 -- where the call began
 abbrev begun : tie.After-lists → tie.Start

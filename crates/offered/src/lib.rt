@@ -1,9 +1,9 @@
-// The call check.
+// The call check: an offered pairing judged against a sheet.
 use blocking::Checked;
 use blocking::offer;
 use sheet::Reading;
 ghost use mathlib.Core.Path.{_≡_};
-ghost use Rattle.calls.specs.Checks.{checkOf};
+ghost use Rattle.offered.specs.Checks.{checkOf};
 
 // Checks an offered pairing against a sheet: a refusal of the sheet, then 10, then holds or the lowest blocking pair.
 pub fn check(sheet: &[u8], pairing: &[u8]) -> Checked

@@ -1,0 +1,2 @@
+-- Laws of the call's answer.
+pub mod LawsChecks

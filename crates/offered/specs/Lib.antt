@@ -1,0 +1,2 @@
+-- What the call check answers for every input.
+pub mod Checks
