@@ -1,13 +1,13 @@
 -- Laws of `countBelow`.
 use mathlib.Core.Path.{_≡_, refl, ap}
-use mathlib.Core.Bool.{Bool, true, false, not, cond}
+use mathlib.Core.Bool.{Bool, true, false, not, cond, _&&_}
 use mathlib.Core.Logic.{_⊎_, inl, inr, _≢_}
 use Prim.Native.Nat.{ℕ, zero, suc, _+_, _≤_, _<_}
 use native.Mathlib.Numerals.{add-one}
 use native.Mathlib.Omega.{arith}
 use Rattle.base.specs.Below.{countBelow, sumBelow}
 use Rattle.base.proofs.Cases.{case, both-ways, lt-ge}
-use Rattle.base.proofs.SumBelow.{sum-grows, sum-le}
+use Rattle.base.proofs.SumBelow.{sum-grows}
 
 -- a count is a sum of ones
 abbrev pub ones : (ℕ → Bool) → ℕ → ℕ
@@ -56,12 +56,15 @@ unfolding countBelow
 count-same zero f g h = refl
 count-same (suc n) f g h = rw (count-same n f g (λ i l. h i (omega arith)), h n (omega arith))
 
-pub count-le : (n : ℕ) (f g : ℕ → Bool) → ((i : ℕ) → i < n → f i ≡ true → g i ≡ true) → countBelow n f ≤ countBelow n g
-count-le n f g h = rw (count-sum n f, count-sum n g) (sum-le n (ones f) (ones g) (λ i l. go (f i) (g i) (h i l)))
-  where
-    go : (a b : Bool) → (a ≡ true → b ≡ true) → cond a 1 0 ≤ cond b 1 0
-    go true b h = rw (h refl) (omega arith)
-    go false b h = omega arith
+-- those that pass a second test and those that do not are all that pass the first
+pub count-parted : (n : ℕ) (f g : ℕ → Bool) → countBelow n (λ i. f i && not (g i)) + countBelow n (λ i. f i && g i) ≡ countBelow n f
+unfolding countBelow
+count-parted zero f g = refl
+count-parted (suc n) f g =
+    let rest = count-parted n f g in
+    case (both-ways (f n))
+    (λ e. case (both-ways (g n)) (λ h. rw (e, h) (omega arith)) (λ h. rw (e, h) (omega arith)))
+    (λ e. rw e (omega arith))
 
 -- those that pass and those that do not are all
 pub count-rest : (n : ℕ) (test : ℕ → Bool) → countBelow n test + countBelow n (λ i. not (test i)) ≡ n

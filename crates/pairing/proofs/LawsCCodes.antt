@@ -37,7 +37,7 @@ check-pair-small s m k e =
     omega (arith, b .numbered)
 
 pub follow-small : (s m : List ℕ) (k l : ℕ) → followOf s m ≡ astrayBy k l → (k < 256) × (l < 65536)
-follow-small s m k l e = let few = follows-kept s m .few k l e in (omega (arith, few .1), omega (arith, few .2))
+follow-small s m k l e = let few = follows-kept s m .few k l e in (omega (arith, few .0), omega (arith, few .1))
 
 pub proposals-small : (whole : Bool) (s cs : List ℕ) → countsOf whole s cs .proposals < 65536
 proposals-small whole s cs = omega (arith, calls-keep s .counts-small whole cs .0)

@@ -10,7 +10,7 @@ use Rattle.base.specs.Faults.{when, firstFault}
 use Rattle.base.proofs.Cases.{case}
 use Rattle.base.proofs.Faults.{first-none, first-holds, fault-here, fault-behind, fault-passes, last-fault, when-none, when-less}
 use Rattle.sheet.specs.Claims.{OfSheet}
-use Rattle.sheet.proofs.Numbers.{of-sheet-some, not-of-sheet}
+use Rattle.sheet.proofs.Numbers.{of-sheet-some, not-of-sheet, number-not}
 use Rattle.promises.specs.Claims.{Refuses}
 
 -- nothing is refused, or 11 to 15
@@ -35,9 +35,6 @@ abbrev Number : ℕ → Type 0
 Number k = 1 ≤ k → OfSheet k ⊎ ((k ≡ 9) ⊎ ((11 ≤ k) × (k ≤ 15)))
 
 module _ (f room need c : ℕ) (known : (f ≡ 0) ⊎ OfSheet f) (choice : OfChoice c) where
-  not-sheet : (k : ℕ) → 9 ≤ k → k ≤ 17 → f ≢ k
-  not-sheet k low high e = case known (λ z. omega arith) (λ own. not-of-sheet f own (omega arith) (omega arith))
-
   abbrev faults : List ℕ
   faults = callFaults f room need c
 
@@ -62,7 +59,7 @@ module _ (f room need c : ℕ) (known : (f ≡ 0) ⊎ OfSheet f) (choice : OfCho
 
   by-buffer : firstFault faults ≡ 9 ↔ ((f ≡ 0) × (room < need))
   by-buffer =
-      let sheet = fault-behind f (nine ∷ c ∷ []) 9 (not-sheet 9 (omega arith) (omega arith)) in
+      let sheet = fault-behind f (nine ∷ c ∷ []) 9 (number-not f known 9 (omega arith) (omega arith)) in
       let own = fault-here nine (c ∷ []) 9 (omega arith) (not-choice 9 (omega arith) (λ low high. omega arith)) in (
         λ h. let r = sheet .0 h in let e = own .0 (r .1) in (r .0, case (when-less room need 9) (λ g. absurd (omega (arith, g .0))) (λ g. g .1)),
         λ h. sheet .1 (h .0, own .1 (rw (lt-ltb room need (h .1)) refl)),
@@ -71,7 +68,7 @@ module _ (f room need c : ℕ) (known : (f ≡ 0) ⊎ OfSheet f) (choice : OfCho
   -- the buffer will do, and it is the number of the sheet and the choices alone
   by-choice : (k : ℕ) → 11 ≤ k → k ≤ 15 → firstFault faults ≡ k ↔ ((need ≤ room) × (firstFault (f ∷ (c ∷ [])) ≡ k))
   by-choice k big low =
-      let other = not-sheet k (omega arith) (omega arith) in
+      let other = number-not f known k (omega arith) (omega arith) in
       let sheet = fault-behind f (nine ∷ c ∷ []) k other in
       let buffer = fault-behind nine (c ∷ []) k (not-nine k (omega arith) (λ e. omega arith)) in
       let alone = fault-behind f (c ∷ []) k other in (

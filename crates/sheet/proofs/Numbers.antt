@@ -54,8 +54,11 @@ of-sheet-some k h = case h (λ l. l .0) (λ o. case o (λ e. omega arith) (λ e.
 pub not-of-sheet : (k : ℕ) → OfSheet k → 9 ≤ k → k ≤ 17 → ⊥
 not-of-sheet k h low high = case h (λ l. omega arith) (λ o. case o (λ e. omega arith) (λ e. omega arith))
 
+pub number-not : (f : ℕ) → (f ≡ 0) ⊎ OfSheet f → (k : ℕ) → 9 ≤ k → k ≤ 17 → f ≢ k
+number-not f known k low high e = case known (λ z. omega arith) (λ h. not-of-sheet f h (omega arith) (omega arith))
+
 pub sheet-not : (s : List ℕ) (k : ℕ) → 9 ≤ k → k ≤ 17 → sheetFault s ≢ k
-sheet-not s k low high e = case (sheet-numbers s) (λ z. omega arith) (λ h. not-of-sheet _ h (omega arith) (omega arith))
+sheet-not s = number-not (sheetFault s) (sheet-numbers s)
 
 pub refused-first : RefusedFirst
 unfolding sheetFault

@@ -3,22 +3,20 @@ use mathlib.Core.Path.{_≡_, refl, sym, ap, subst, _∙_}
 use mathlib.Core.Bool.{true, false, not}
 use mathlib.Core.List.{List, [], _∷_}
 use mathlib.Core.Logic.{_⊎_, inl, inr, _≢_, _↔_}
-use Prim.Native.Nat.{ℕ, zero, suc, _≤_}
+use Prim.Native.Nat.{ℕ, zero, suc, _+_, _≤_}
 use native.Mathlib.Omega.{arith}
-use lib.Dec.{ltb}
 use lib.ListN.{length}
 use borrow.Author.Tests.{lt-ltb, le-ltb, ltb-true}
 use Rattle.base.specs.Claims.{First}
 use Rattle.base.specs.Faults.{when, firstFault}
 use Rattle.base.proofs.Cases.{case, eq-ne, unlike}
-use Rattle.base.proofs.CountBelow.{count-le}
 use Rattle.base.proofs.Faults.{first-answered, first-none, first-holds, fault-here, fault-behind, fault-stops, fault-passes, last-fault, when-holds, unless-none, unless-is, unless-other}
 use Rattle.base.proofs.Tests.{never, not-so}
 use Rattle.parents.specs.Parents.{parentOf, isThere}
 use Rattle.parents.specs.Claims.{Lower}
 use Rattle.sheet.specs.Format.{joints, third, parentsOf}
 use Rattle.sheet.specs.Refusals.{sheetFault}
-use Rattle.sheet.specs.Square.{at, squareOf, SquarePromise}
+use Rattle.sheet.specs.Square.{at, squareOf}
 use Rattle.sheet.specs.Claims.{OfSheet}
 use Rattle.sheet.proofs.Accepted.{accepted-parents}
 use Rattle.sheet.proofs.Numbers.{of-sheet-some, not-of-sheet, sheet-not, sheet-numbers}
@@ -26,17 +24,16 @@ use Rattle.sheet.proofs.PromiseKept.{accepted-square}
 use Rattle.matching.specs.Matchings.{partner, isMatching, pairCount}
 use Rattle.matching.specs.Plain.{Matching}
 use Rattle.matching.proofs.MatchingTest.{is-matching-means}
-use Rattle.matching.proofs.PairCounts.{one-higher, paired-few}
+use Rattle.matching.proofs.PairCounts.{paired-few}
 use Rattle.matching.proofs.PairNumbers.{pair-number-small}
 use Rattle.skeleton.specs.declared.Followed.{Followed}
 use Rattle.skeleton.specs.declared.Followed.the-variants as F
-use Rattle.skeleton.specs.Following.{isStray, strayCount, strayNumber}
+use Rattle.skeleton.specs.Following.{strayCount, followCount, strayNumber}
 use Rattle.skeleton.specs.Plain.{Stray, LowestStray}
 use Rattle.skeleton.specs.Answers.{astrayBy, followed, followFaults, followedAs, followOf}
 use Rattle.skeleton.specs.Claims.{Judged, FollowKeeps, FollowsKept}
-use Rattle.skeleton.proofs.FollowLaws.{stray-is}
 use Rattle.skeleton.proofs.AnswerLaws.{all-follow, some-stray}
-use Rattle.skeleton.proofs.StrayRule.{strays-none, strays-lowest}
+use Rattle.skeleton.proofs.StrayRule.{strays-none, strays-counted, strays-lowest}
 use Rattle.skeleton.proofs.EqualDepth.{equal-depth}
 
 -- THE PAIRS, by how many do not follow
@@ -253,19 +250,20 @@ module _ (s m : List ℕ) where
       only-one : {n : ℕ} {parent partner : ℕ → ℕ} {j k : ℕ} → LowestStray n parent partner j → LowestStray n parent partner k → j ≤ k
       only-one v w = let l = v .lowest _ _ (w .stray) in omega (arith, w .numbered)
 
-  few : (k l : ℕ) → followOf s m ≡ astrayBy k l → (k ≤ pairCount m) × (k ≤ 64) × (l ≤ 8127)
+  all-counted : (k l : ℕ) → followOf s m ≡ astrayBy k l → k + followCount ps m ≡ pairCount m
+  all-counted k l h =
+      let r = astray k l .0 h in
+      let j = r .0 in
+      omega (arith, r .2, strays-counted n t ps m (accepted-square s (j .accepted)) (is-matching-means n t m .1 (j .matching)))
+
+  few : (k l : ℕ) → followOf s m ≡ astrayBy k l → (k ≤ 64) × (l ≤ 8127)
   few k l h =
       let r = astray k l .0 h in
       let j = r .0 in
-      let promise : SquarePromise n t = accepted-square s (j .accepted) in
-      let higher = one-higher n t m promise (is-matching-means n t m .1 (j .matching)) in
-      let strays = count-le n (isStray ps m) (λ b. ltb (partner m b) b) (λ b l p. lt-ltb (partner m b) b (stray-is ps m b p .0)) in
-      let many : strayCount ps m ≤ pairCount m = rw (j .matching .0) (omega (arith, higher, strays)) in
+      let joints-few = accepted-square s (j .accepted) .few-joints in
       let w = r .3 in
-      let joint = w .stray .joint in
-      let small = pair-number-small (w .lower) (w .higher) (w .stray .below) (omega (arith, joint, promise .few-joints)) in
-      let pairs = paired-few m in
-      (omega (arith, r .2, many), omega (arith, r .2, many, pairs, j .matching .0, promise .few-joints), omega (arith, w .numbered, small))
+      let small = pair-number-small (w .lower) (w .higher) (w .stray .below) (omega (arith, w .stray .joint, joints-few)) in
+      (omega (arith, all-counted k l h, paired-few m, j .matching .0, joints-few), omega (arith, w .numbered, small))
 
   pub follow-keeps : FollowKeeps s m
   follow-keeps = record {
@@ -276,6 +274,7 @@ module _ (s m : List ℕ) where
     by-ten = by-ten;
     all = all;
     astray = astray;
+    counted = all-counted;
     few = few;
     equal-depth = λ h.
         let r = all .0 h in

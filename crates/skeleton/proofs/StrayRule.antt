@@ -4,17 +4,20 @@ use mathlib.Core.Bool.{true, false}
 use mathlib.Core.List.{List}
 use Prim.Native.Nat.{ℕ, _<_}
 use native.Mathlib.Omega.{arith}
+use lib.Dec.{ltb}
 use lib.ListN.{length}
 use Rattle.base.proofs.Cases.{case, lt-ge, eq-ne}
-use Rattle.base.proofs.CountBelow.{counted, count-one}
+use Rattle.base.proofs.CountBelow.{counted, count-one, count-parted}
 use Rattle.base.proofs.Lowest.{lowest-below}
 use Rattle.base.proofs.Tests.{never, not-so}
 use Rattle.parents.specs.Parents.{parentOf}
 use Rattle.matching.specs.Matchings.{partner}
+use Rattle.matching.proofs.MatchingTest.{as-many}
+use Rattle.matching.proofs.PairCounts.{one-higher}
 use Rattle.matching.proofs.PairNumbers.{pair-number-rises}
 use Rattle.skeleton.specs.Following.{follows, isStray, lowestStray}
 use Rattle.skeleton.specs.Plain.{Stray}
-use Rattle.skeleton.specs.Claims.{StraysNone, StraysLowest}
+use Rattle.skeleton.specs.Claims.{StraysNone, StraysCounted, StraysLowest}
 use Rattle.skeleton.proofs.FollowLaws.{follows-means, stray-is, is-stray, stray-found}
 
 module _ (ps m : List ℕ) where
@@ -40,6 +43,13 @@ strays-none ps m = (
       absurd (none _ (j .0) (is-pair ps m (j .0) (j .1) (j .2))))
       (λ z. omega arith),
 )
+
+pub strays-counted : StraysCounted
+unfolding isStray
+strays-counted n t ps m promise matching =
+    let higher = one-higher n t m promise matching in
+    let all = count-parted n (λ b. ltb (partner m b) b) (λ b. follows ps m (partner m b) b) in
+    rw (as-many n t m matching) (omega (arith, higher, all))
 
 pub strays-lowest : StraysLowest
 strays-lowest ps m some =

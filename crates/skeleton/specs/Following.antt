@@ -22,9 +22,12 @@ follows ps m a b =
 unfoldable pub isStray : List ℕ → List ℕ → ℕ → Bool
 isStray ps m b = ltb (partner m b) b && not (follows ps m (partner m b) b)
 
--- how many pairs do not follow: each has one higher joint
+-- how many pairs do not follow: each has one higher joint; and how many do
 abbrev pub strayCount : List ℕ → List ℕ → ℕ
 strayCount ps m = countBelow (length m) (isStray ps m)
+
+abbrev pub followCount : List ℕ → List ℕ → ℕ
+followCount ps m = countBelow (length m) (λ b. ltb (partner m b) b && follows ps m (partner m b) b)
 
 -- the lowest number among them: that of the pair with the lowest higher joint
 abbrev pub lowestStray : List ℕ → List ℕ → ℕ

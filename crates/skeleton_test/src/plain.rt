@@ -2,7 +2,7 @@
 // before which, pairs come by their lower joint, and the least of their numbers is taken. Parents and partners are 8 bytes, 255 for none.
 use base::wide;
 use std::num::wrapping_add_u32;
-ghost use Prim.Native.Nat.{_<_, _≤_};
+ghost use Prim.Native.Nat.{_<_};
 
 // The byte of a root, and of an unpaired joint.
 pub const NONE: u8 = 255;
