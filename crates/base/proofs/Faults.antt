@@ -172,3 +172,34 @@ unfolding faultBelow
 below-most m zero fault h = omega arith
 below-most m (suc i) fault h =
     first-most m _ _ (below-most m i fault h) (rw (last-fault (fault i)) (h i))
+
+-- the faults of fewer numbers, where there is one; and where none is
+pub below-stays : (n m : ℕ) (fault : ℕ → ℕ) → (faultBelow n fault ≡ 0 → ⊥) → n ≤ m → faultBelow m fault ≡ faultBelow n fault
+unfolding faultBelow
+below-stays n zero fault h l = let e : n ≡ 0 = omega arith in rw e refl
+below-stays n (suc m) fault h l =
+    case (eq-ne n (suc m))
+    (λ e. rw e refl)
+    (λ ne. let e = below-stays n m fault h (omega arith) in
+    fault-stops _ _ (λ z. h (sym e ∙ z)) ∙ e)
+
+pub none-below : (n : ℕ) (fault : ℕ → ℕ) → ((i : ℕ) → i < n → fault i ≡ 0) → faultBelow n fault ≡ 0
+unfolding faultBelow
+none-below zero fault h = refl
+none-below (suc n) fault h = fault-passes _ _ (none-below n fault (λ i l. h i (omega arith))) ∙ last-fault _ ∙ h n (omega arith)
+
+-- faults that agree below n
+pub below-same : (n : ℕ) (f g : ℕ → ℕ) → ((i : ℕ) → i < n → f i ≡ g i) → faultBelow n f ≡ faultBelow n g
+unfolding faultBelow
+below-same zero f g h = refl
+below-same (suc n) f g h = rw (below-same n f g (λ i l. h i (omega arith)), h n (omega arith)) refl
+
+-- the number that has the first one
+pub below-first : (n : ℕ) (fault : ℕ → ℕ) → (faultBelow n fault ≡ 0 → ⊥)
+    → (i : ℕ) × ((i < n) × ((faultBelow i fault ≡ 0) × (faultBelow n fault ≡ fault i)))
+unfolding faultBelow
+below-first zero fault h = absurd (h refl)
+below-first (suc n) fault h =
+    case (eq-ne (faultBelow n fault) 0)
+    (λ z. (n, (omega arith, (z, fault-passes _ _ z ∙ last-fault _))))
+    (λ ne. let (i, (l, (z, e))) = below-first n fault ne in (i, (omega arith, (z, fault-stops _ _ ne ∙ e))))

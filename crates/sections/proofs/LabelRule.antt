@@ -20,17 +20,17 @@ use Rattle.sections.specs.Claims.{Label, LabelRule, GoodLabels, LabelsRu
 use Rattle.sections.proofs.LabelLaws.{same-true, same-equal}
 
 -- A BYTE
-visible-range : (b : ℕ) → visible b ≡ true → (33 ≤ b) × (b ≤ 126)
+pub visible-range : (b : ℕ) → visible b ≡ true → (33 ≤ b) × (b ≤ 126)
 visible-range b h = let (low, high) = and-true (leb 33 b) (leb b 126) h in (leb-true 33 b low, leb-true b 126 high)
 
-range-visible : (b : ℕ) → (33 ≤ b) × (b ≤ 126) → visible b ≡ true
+pub range-visible : (b : ℕ) → (33 ≤ b) × (b ≤ 126) → visible b ≡ true
 range-visible b h = rw (le-leb 33 b (h .0), le-leb b 126 (h .1))
 
 zero-unseen : (b : ℕ) → b ≡ 0 → visible b ≡ false
 zero-unseen b h = let l : b < 33 = omega arith in rw (lt-leb 33 b l)
 
 -- THE RUN of a label, and what is behind it
-run-seen : (l : List ℕ) (i : ℕ) → i < visibleRun l → visible (getD l i 0) ≡ true
+pub run-seen : (l : List ℕ) (i : ℕ) → i < visibleRun l → visible (getD l i 0) ≡ true
 unfolding visibleRun
 run-seen [] i h = absurd (omega arith)
 run-seen (b ∷ l) zero h = case (both-ways (visible b)) (λ t. t) (λ f. let k : 0 < 0 = rw f at h in absurd (omega arith))
@@ -45,7 +45,7 @@ run-within [] = omega arith
 run-within (b ∷ l) = let h = run-within l in case (both-ways (visible b)) (λ t. rw t (omega arith)) (λ f. rw f (omega arith))
 
 -- a run of seen bytes before zeros is the run
-run-is : (l : List ℕ) (k : ℕ) → k ≤ length l → ((i : ℕ) → i < k → visible (getD l i 0) ≡ true) → ((i : ℕ) → k ≤ i → i < length l → getD l i 0 ≡ 0)
+pub run-is : (l : List ℕ) (k : ℕ) → k ≤ length l → ((i : ℕ) → i < k → visible (getD l i 0) ≡ true) → ((i : ℕ) → k ≤ i → i < length l → getD l i 0 ≡ 0)
     → visibleRun l ≡ k
 unfolding visibleRun
 run-is [] k w seen zeros = omega arith

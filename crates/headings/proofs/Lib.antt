@@ -1,0 +1,2 @@
+-- Laws of words met one after the other.
+pub mod HeadingLaws
