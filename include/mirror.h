@@ -1,17 +1,17 @@
 /*
  * Super-stable pairing of a skeleton's joints: the C interface of libpairing.a.
  *
- * Every call takes a sheet, which says for each joint which others it resembles, in bands. A pairing is super-stable if
- * no two joints that list each other, and are not paired together, would each do at least as well with the other
- * (an unpaired joint does at least as well with anyone on its list).
+ * Every call but mirror_import takes a sheet, which says for each joint which others it resembles, in bands. A pairing is
+ * super-stable if no two joints that list each other, and are not paired together, would each do at least as well with the
+ * other (an unpaired joint does at least as well with anyone on its list). mirror_import makes a sheet of a BVH text.
  *
  * A call ends with an answer for every content and size of its arguments, always the same one for the same bytes. It
  * keeps nothing between calls, takes no memory but the stack, and may run in several threads at once. What a caller owes:
  *   - each pointer points to as many bytes as the size after it says (NULL will do where the size is 0);
  *   - `out` shares no byte with another argument, and nothing writes to any argument during the call;
- *   - 384 KiB of stack are free, whatever the sheet and the choices (64 KiB for mirror_check and mirror_follow); measured, a
- *     call uses up to 285,448 bytes (these two 32,968). A main thread has far more; a thread that is started with a small
- *     stack may not.
+ *   - 384 KiB of stack are free, whatever the sheet and the choices (64 KiB for mirror_check, mirror_follow and mirror_import);
+ *     measured, a call uses up to 285,448 bytes (check and follow 32,968, import 6,408). A main thread has far more; a thread
+ *     that is started with a small stack may not.
  *
  * The library is for x86-64 Linux and calls memcpy, memmove and memset of the C library, nothing else.
  *
@@ -59,6 +59,18 @@
  *                  static const uint8_t tariff[] = { 2,  1, 244, 1, 0, 0,  4, 44, 1, 0, 0 };
  *              and five pairs cost 3 x 500 + 2 x 300 = 2,100 cents.
  *
+ * THE TEXT of mirror_import begins with a hierarchy as BVH files have it. It is words, parted by spaces, tabs, line feeds and
+ * carriage returns: HIERARCHY, then one or more ROOT blocks, up to the word MOTION or the end of the text. What follows MOTION is
+ * not read. A block is
+ *     ROOT name {                     or JOINT name {
+ *         OFFSET x y z                 three words
+ *         CHANNELS count ...           decimal digits, and that many words
+ *         JOINT name { ... }           blocks and End Sites in any number and order
+ *         End Site { OFFSET x y z }
+ *     }
+ * JOINT nests to depth 32, the ROOT's being 1. Braces are words too, so they stand apart from others. Each word is taken by its
+ * place: numbers and channels are any words, and a name may be any, if it can be a label. Keywords are as written here.
+ *
  * REFUSALS: the lowest byte of every return is 0, or the number of the first thing wrong, looked for in this order:
  *    1  the sheet ends before n (it is empty)
  *    2  n is above 128
@@ -83,6 +95,11 @@
  *   13    a step when the work has ended
  *   11    the chosen joint does not wait, or is no joint (first phase)
  *   12    the chosen list is not longer than one, or the choice is no joint (second phase)
+ * and for mirror_import, as the text is read from its first word on:
+ *   19    it is not of the form above, or JOINT nests deeper; met at the word that breaks the form (for depth, at JOINT)
+ *    2    the 129th name
+ *   20    a name that cannot be a label (longer than 16 bytes, or with a byte outside 33 to 126), or that came before
+ *    9  `out` is too short, looked for when all is read
  * A refused call writes nothing, whenever the refusal is met.
  */
 #ifndef MIRROR_H
@@ -99,7 +116,7 @@ extern "C" {
 #endif
 
 /* The most joints, and the sizes in bytes that always serve: no longer sheet and no longer tariff is accepted, and `out` need
- * be no longer for mirror_settle and mirror_shorten. A program that reads a sheet into a buffer of
+ * be no longer for mirror_settle, mirror_shorten and mirror_import. A program that reads a sheet into a buffer of
  * MIRROR_SHEET_BYTES takes one byte more, or it will not see that bytes follow a largest sheet (refusal 8), and so for a tariff
  * (refusal 16). */
 #define MIRROR_JOINTS 128
@@ -107,6 +124,7 @@ extern "C" {
 #define MIRROR_PAIRING_BYTES 128
 #define MIRROR_LISTS_BYTES (2 + 3 * 128 * 127)
 #define MIRROR_TARIFF_BYTES (1 + 5 * 16)
+#define MIRROR_IMPORT_BYTES (1 + 16 * 128 + 2 + 1 + 128)
 
 /* The partner byte of an unpaired joint, and the parent byte of a root. */
 #define MIRROR_ALONE 255
@@ -114,7 +132,8 @@ extern "C" {
 
 /* The parts of what the calls return. MIRROR_REFUSAL is for every call; MIRROR_VERDICT and MIRROR_COUNT for mirror_settle
  * and mirror_shorten; MIRROR_HOLDS and MIRROR_PAIR for mirror_check; MIRROR_PROPOSALS and MIRROR_CUTS for mirror_counts;
- * MIRROR_VERDICT and MIRROR_SUM for mirror_quote; MIRROR_ASTRAY and MIRROR_PAIR for mirror_follow. */
+ * MIRROR_VERDICT and MIRROR_SUM for mirror_quote; MIRROR_ASTRAY and MIRROR_PAIR for mirror_follow; MIRROR_LENGTH for
+ * mirror_import. */
 #define MIRROR_REFUSAL(r) ((unsigned)((r) & 255))
 #define MIRROR_VERDICT(r) ((unsigned)((r) >> 8 & 255))
 #define MIRROR_COUNT(r) ((unsigned)((r) >> 16))
@@ -124,6 +143,7 @@ extern "C" {
 #define MIRROR_PROPOSALS(r) ((unsigned)((r) >> 16 & 65535))
 #define MIRROR_CUTS(r) ((unsigned)((r) >> 32))
 #define MIRROR_SUM(r) ((uint64_t)(r) >> 16)
+#define MIRROR_LENGTH(r) ((unsigned)((r) >> 8))
 
 /* Verdicts of mirror_settle, mirror_shorten and mirror_quote; 0 with a refusal. */
 #define MIRROR_NONE_PHASE_ONE 1
@@ -149,7 +169,9 @@ enum mirror_refusal {
     MIRROR_NO_SUCH_MARK = 15,
     MIRROR_BAD_TARIFF = 16,
     MIRROR_REBATE_TOO_HIGH = 17,
-    MIRROR_BAD_PARENTS = 18
+    MIRROR_BAD_PARENTS = 18,
+    MIRROR_BAD_HIERARCHY = 19,
+    MIRROR_BAD_NAME = 20
 };
 
 /*
@@ -254,6 +276,24 @@ uint64_t mirror_quote(const uint8_t *sheet, size_t sheet_size,
  */
 uint32_t mirror_follow(const uint8_t *sheet, size_t sheet_size,
                        const uint8_t *pairing, size_t pairing_size);
+
+/*
+ * Imports: makes a sheet of the hierarchy that a BVH text begins with. Its joints are the blocks in order of appearance, each
+ * label a block's name and each parent the number of the block that encloses it, 255 for a ROOT. Nothing is ranked: m is 0,
+ * and the likenesses are for the caller to put in. An End Site is no joint.
+ *
+ * Returns refusal + 256 x length:
+ *   length     of the sheet that `out` begins with, 4 + 17 x n bytes; bytes past it stay as they were.
+ * With refusal 2, 9, 19 or 20 it is 0, and nothing is written. The text may be of any length; what is cut off behind the word
+ * MOTION and the byte after it does not change the answer. A text that is cut off before that may be refused, or pass for a
+ * shorter hierarchy where the cut is between two ROOT blocks: that a file was read whole, or up to MOTION, is the caller's to know.
+ *     uint8_t sheet[MIRROR_IMPORT_BYTES];
+ *     uint32_t answer = mirror_import(text, size, sheet, sizeof sheet);
+ *     if (MIRROR_REFUSAL(answer) == MIRROR_ACCEPTED)
+ *         fwrite(sheet, 1, MIRROR_LENGTH(answer), file);
+ */
+uint32_t mirror_import(const uint8_t *text, size_t text_size,
+                       uint8_t *out, size_t out_size);
 
 #ifdef __cplusplus
 }

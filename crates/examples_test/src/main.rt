@@ -1,5 +1,7 @@
-// Holds what mirror prints for each example sheet to the text that stands beside it, what quote answers for one to its price, and what follow
-// answers for the example pairings to what is reasoned.
+// Holds what mirror prints for each example sheet to the text that stands beside it, what quote answers for one to its price, what follow
+// answers for the example pairings to what is reasoned, and what import writes for each hierarchy to the sheet beside it.
+use bvh::Imported;
+use bvh::import;
 use quote::Quoted;
 use quote::quote;
 use skeleton::Followed;
@@ -97,6 +99,31 @@ fn try_follow(sheet_path: &[u8], pairing_path: &[u8], pairs: u32, lowest: u32) {
     say(is_followed(sheet_path, pairing_path, pairs, lowest));
 }
 
+// Is the sheet that import writes the expected one?
+fn becomes(text: &[u8], expected: &[u8]) -> bool {
+    let mut sheet = [0u8; 2180];
+    let answer = import(text, &mut sheet);
+    let Imported::Sheet(length) = answer else {
+        return false;
+    };
+    check::same(&sheet[..length], expected)
+}
+
+fn is_imported(text_path: &[u8], sheet_path: &[u8]) -> bool {
+    let mut text = io::large_buffer();
+    let size = read_file(text_path, &mut text);
+    let mut sheet = io::buffer();
+    let sheet_size = read_file(sheet_path, &mut sheet);
+    becomes(&text[..size], &sheet[..sheet_size])
+}
+
+fn try_import(text_path: &[u8], sheet_path: &[u8]) {
+    io::write_all(1, text_path);
+    io::write_all(1, b" to ");
+    io::write_all(1, sheet_path);
+    say(is_imported(text_path, sheet_path));
+}
+
 // The fox has ten pairs: three at 500 cents and seven at 300, less two and a half percent. Each is of a left joint and its right one, so all
 // follow. Where a thumb is mirrored to a toe, their parents are a wrist and an ankle: joints 5 and 8, and 6 and 7, whose pair is number
 // 7 × 6 ÷ 2 + 6.
@@ -112,4 +139,6 @@ fn main() {
     try_quote(b"fox.sheet", b"shop.tariff", 250, 3510);
     try_follow(b"fox.sheet", b"fox.pairing", 0, 0);
     try_follow(b"thumb.sheet", b"thumb-to-toe.pairing", 2, 27);
+    try_import(b"biped.bvh", b"biped.sheet");
+    try_import(b"quadruped.bvh", b"quadruped.sheet");
 }

@@ -14,8 +14,8 @@ use Rattle.names.specs.Names.{nameFault, namesFault}
 use Rattle.names.specs.Kept.{namesAt}
 use Rattle.names.proofs.NameLaws.{names-more, name-room}
 use Rattle.names.proofs.KeptLaws.{names-length, placed-more, names-more-at}
-use Rattle.hierarchy.specs.declared.Step.{Step}
-use Rattle.hierarchy.specs.declared.Step.the-variants.{Read, Refused}
+use Rattle.hierarchy.specs.declared.Progress.{Progress}
+use Rattle.hierarchy.specs.declared.Progress.the-variants.{Read, Refused}
 use Rattle.headings.specs.Headings.{heading}
 use Rattle.hierarchy.specs.Hierarchy.{Joints, named, Met, broken, behind, block, children, metFault}
 use Rattle.hierarchy.specs.Gathered.{gathered, Ready, Answers, Answered}
@@ -27,7 +27,7 @@ unfolding metFault
 broken-fault js h = fault-passes _ _ h ∙ last-fault 19
 
 -- an answer stays one from an earlier place on
-pub from-earlier : (s : List ℕ) (p q : ℕ) (r : Step) (starts parents : List ℕ) (met : Met) → p ≤ q → Answers s q r starts parents met
+pub from-earlier : (s : List ℕ) (p q : ℕ) (r : Progress) (starts parents : List ℕ) (met : Met) → p ≤ q → Answers s q r starts parents met
     → Answers s p r starts parents met
 from-earlier s p q (Read spot) starts parents met h a = record { ready = a .ready; onward = let on = a .onward in omega arith; says = a .says }
 from-earlier s p q (Refused k) starts parents met h a = a
@@ -92,7 +92,7 @@ module _ {s : List ℕ} {place k : ℕ} {starts parents : List ℕ} (ready : Rea
 -- what its children's reader answers is its answer
 pub block-answered : {s : List ℕ} {place k : ℕ} {starts parents : List ℕ} (ready : Ready s place k starts parents) {start end : ℕ} (next : NextWord s place start end)
     (above deeper : ℕ) (some-word : start ≡ end → ⊥) {fault : ℕ} → fault ≡ nameFault (namesAt s k starts) (wordAt s start) → fault ≡ 0
-    → (p : ℕ) → end ≤ p → heading (wordsAt s end) ≡ some (wordsAt s p) → (r : Step) (starts₁ parents₁ : List ℕ)
+    → (p : ℕ) → end ≤ p → heading (wordsAt s end) ≡ some (wordsAt s p) → (r : Progress) (starts₁ parents₁ : List ℕ)
     → Answered s p r starts₁ parents₁ (λ f. children f deeper k (wordsAt s p) (gathered s (k + 1) (set starts k start) (set parents k above)))
     → Answered s place r starts₁ parents₁ (λ f. block (children f deeper) above (wordsAt s place) (gathered s k starts parents))
 block-answered {s} {place} ready next above deeper some-word e good p past h r starts₁ parents₁ a f l =

@@ -5,7 +5,7 @@ use Prim.Native.Nat.{ℕ, zero, suc, _-_, _≤_, _<_}
 use native.Mathlib.Omega.{arith}
 use lib.ListN.{length}
 use Rattle.words.specs.Words.{Words, wordsAt}
-use Rattle.hierarchy.specs.declared.Step.{Step}
+use Rattle.hierarchy.specs.declared.Progress.{Progress}
 use Rattle.hierarchy.specs.Hierarchy.{Joints, Met}
 use Rattle.hierarchy.specs.Gathered.{gathered, Ready, Answers, Answered}
 use Rattle.hierarchy.proofs.BlockLaws.{from-earlier}
@@ -24,7 +24,7 @@ begun reader s place k starts parents ready = record { ready = ready; onward = o
 module _ {reader : ℕ → Words → Joints → Met} {s : List ℕ} {first : ℕ} {js₀ : Joints} {place k : ℕ} {starts parents : List ℕ}
     (going : Going reader s first js₀ place k starts parents) where
   -- an answer to what is left is the answer
-  pub answered : (r : Step) (starts₁ parents₁ : List ℕ)
+  pub answered : (r : Progress) (starts₁ parents₁ : List ℕ)
       → ((f : ℕ) → length s - place ≤ f → Answers s place r starts₁ parents₁ (reader (suc f) (wordsAt s place) (gathered s k starts parents)))
       → Answered s first r starts₁ parents₁ (λ f. reader f (wordsAt s first) js₀)
   answered r starts₁ parents₁ here f l =

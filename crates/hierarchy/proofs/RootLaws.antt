@@ -12,8 +12,8 @@ use Rattle.words.specs.Words.{words, wordsAt}
 use Rattle.words.specs.Met.{keyword}
 use Rattle.names.proofs.NameLaws.{names-none}
 use Rattle.hierarchy.specs.declared.Spot.{Spot}
-use Rattle.hierarchy.specs.declared.Step.{Step}
-use Rattle.hierarchy.specs.declared.Step.the-variants.{Read, Refused}
+use Rattle.hierarchy.specs.declared.Progress.{Progress}
+use Rattle.hierarchy.specs.declared.Progress.the-variants.{Read, Refused}
 use Rattle.headings.specs.Keywords.{hierarchyWord, rootWord}
 use Rattle.hierarchy.specs.Hierarchy.{Joints, noJoints, behind, andThen, block, children, ends, rootBlock, roots, hierarchy, metFault}
 use Rattle.hierarchy.specs.Gathered.{gathered, Ready, WasRead, Answers, Answered, Past}
@@ -38,7 +38,7 @@ unfolding rootBlock behind
 root-broken ready h f = rw h (broken-fault _ (ready .good))
 
 module _ (s : List ℕ) (place q : ℕ) (js : Joints) (h : keyword rootWord (wordsAt s place) ≡ some (wordsAt s q)) (on : place ≤ q)
-    (r : Step) (starts parents : List ℕ) (a : Answered s q r starts parents (λ f. block (children f 31) root (wordsAt s q) js)) where
+    (r : Progress) (starts parents : List ℕ) (a : Answered s q r starts parents (λ f. block (children f 31) root (wordsAt s q) js)) where
   pub root-answered : Answered s place r starts parents (λ f. rootBlock f (wordsAt s place) js)
   unfolding rootBlock behind
   root-answered f l = from-earlier s place q r starts parents _ on (rw h (a f (omega arith)))
@@ -46,7 +46,7 @@ module _ (s : List ℕ) (place q : ℕ) (js : Joints) (h : keyword rootWord (wor
   pub root-past : Past place r
   root-past = behind-root r a
     where
-      behind-root : (r : Step) → Answered s q r starts parents (λ f. block (children f 31) root (wordsAt s q) js) → Past place r
+      behind-root : (r : Progress) → Answered s q r starts parents (λ f. block (children f 31) root (wordsAt s q) js) → Past place r
       behind-root (Read spot) b =
           let read = b (suc (length s)) (omega arith) in
           let past = keyword-past s place q rootWord h on in
@@ -56,7 +56,7 @@ module _ (s : List ℕ) (place q : ℕ) (js : Joints) (h : keyword rootWord (wor
 
 -- A TURN: a root block is refused, is the last, or others come behind it
 module _ {s : List ℕ} {first : ℕ} {js₀ : Joints} {place k : ℕ} {starts parents : List ℕ} (going : Going roots s first js₀ place k starts parents)
-    (r : Step) (starts₁ parents₁ : List ℕ) (a : Answered s place r starts₁ parents₁ (λ f. rootBlock f (wordsAt s place) (gathered s k starts parents))) where
+    (r : Progress) (starts₁ parents₁ : List ℕ) (a : Answered s place r starts₁ parents₁ (λ f. rootBlock f (wordsAt s place) (gathered s k starts parents))) where
   pub roots-refused : (j : ℕ) → r ≡ Refused j → Answered s first r starts₁ parents₁ (λ f. roots f (wordsAt s first) js₀)
   unfolding roots
   roots-refused j is =
@@ -98,7 +98,7 @@ pub whole-broken : (s : List ℕ) → keyword hierarchyWord (words s) ≡ none �
 unfolding hierarchy behind
 whole-broken s h = rw h (broken-fault noJoints names-none)
 
-pub whole-answered : (s : List ℕ) (q : ℕ) (r : Step) (starts parents : List ℕ) → keyword hierarchyWord (words s) ≡ some (wordsAt s q)
+pub whole-answered : (s : List ℕ) (q : ℕ) (r : Progress) (starts parents : List ℕ) → keyword hierarchyWord (words s) ≡ some (wordsAt s q)
     → Answered s q r starts parents (λ f. roots f (wordsAt s q) noJoints) → Answers s 0 r starts parents (hierarchy s)
 unfolding hierarchy behind
 whole-answered s q r starts parents h a = from-earlier s 0 q r starts parents _ (omega arith) (rw h (a (suc (length s)) (omega arith)))

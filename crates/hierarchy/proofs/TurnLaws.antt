@@ -10,8 +10,8 @@ use Rattle.sections.specs.Labels.{sameBytes}
 use Rattle.words.specs.Words.{Words, wordsAt, wordAt}
 use Rattle.words.specs.Met.{NextWord}
 use Rattle.hierarchy.specs.declared.Spot.{Spot}
-use Rattle.hierarchy.specs.declared.Step.{Step}
-use Rattle.hierarchy.specs.declared.Step.the-variants.{Read, Refused}
+use Rattle.hierarchy.specs.declared.Progress.{Progress}
+use Rattle.hierarchy.specs.declared.Progress.the-variants.{Read, Refused}
 use Rattle.headings.specs.declared.Child.{Child}
 use Rattle.headings.specs.declared.Child.the-variants.{Close, End, Joint, Other}
 use Rattle.headings.specs.Headings.{site, childOf}
@@ -112,7 +112,7 @@ module _ (deeper own : ℕ) {s : List ℕ} {first : ℕ} {js₀ : Joints} {place
       block-at-ready = record { inside = next .word .within; placed = going .ready .placed; room = going .ready .room; good = going .ready .good }
 
       module _ (some-depth : deeper ≡ 0 → ⊥) (starts₁ parents₁ : List ℕ) where
-        pub turn-refused : (r : Step) (j : ℕ) → r ≡ Refused j → Answered s end r starts₁ parents₁ (λ f. block (children f (deeper - 1)) own (wordsAt s end) js)
+        pub turn-refused : (r : Progress) (j : ℕ) → r ≡ Refused j → Answered s end r starts₁ parents₁ (λ f. block (children f (deeper - 1)) own (wordsAt s end) js)
             → Answered s first r starts₁ parents₁ (λ f. children f deeper own (wordsAt s first) js₀)
         turn-refused r j is a =
             rw is
@@ -124,7 +124,7 @@ module _ (deeper own : ℕ) {s : List ℕ} {first : ℕ} {js₀ : Joints} {place
             rw is at (a f (omega arith)) in
             (rw (joint-is some-depth f) (then-fault _ _ (children-grows f deeper own) (b .0) (b .1)), b .1)))
 
-        module _ (r : Step) (spot : Spot) (is : r ≡ Read spot)
+        module _ (r : Progress) (spot : Spot) (is : r ≡ Read spot)
             (a : Answered s end r starts₁ parents₁ (λ f. block (children f (deeper - 1)) own (wordsAt s end) js)) where
           was-read : (f : ℕ) → length s - place ≤ f → WasRead s end spot starts₁ parents₁ (block (children f (deeper - 1)) own (wordsAt s end) js)
           was-read f l =

@@ -21,7 +21,10 @@ OneHierarchy = (s : List ℕ) (h h′ : Roots) → Spells s h → Spells s h′ 
 abbrev pub ParentsLower : Type 0
 ParentsLower = (h : Roots) → (length (jointsIn h .parents) ≡ length (jointsIn h .names)) × Lower (jointsIn h .parents)
 
--- A TEXT CUT SHORT does not pass for a whole one, where a byte that is no gap and ends no keyword stands at the cut, as 35 does: a hierarchy
--- that is read before it is that of the whole text, however this goes on.
+-- A TEXT CUT SHORT does not pass for a whole one, where a mark stands at the cut, a byte that is no gap and ends no keyword: a hierarchy that is
+-- read before the mark is that of the whole text, however this goes on.
+abbrev pub cutMark : ℕ
+cutMark = 35
+
 abbrev pub CutShort : Type 0
-CutShort = (s later : List ℕ) (h : Roots) → Spells (s ++ (35 ∷ [])) h → Spells (s ++ later) h
+CutShort = (s later : List ℕ) (h : Roots) → Spells (s ++ (cutMark ∷ [])) h → Spells (s ++ later) h

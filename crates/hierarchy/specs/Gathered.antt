@@ -7,8 +7,8 @@ use Rattle.words.specs.Words.{wordsAt}
 use Rattle.names.specs.Names.{namesFault}
 use Rattle.names.specs.Kept.{namesAt, Placed}
 use Rattle.hierarchy.specs.declared.Spot.{Spot}
-use Rattle.hierarchy.specs.declared.Step.{Step}
-use Rattle.hierarchy.specs.declared.Step.the-variants.{Read, Refused}
+use Rattle.hierarchy.specs.declared.Progress.{Progress}
+use Rattle.hierarchy.specs.declared.Progress.the-variants.{Read, Refused}
 use Rattle.hierarchy.specs.Hierarchy.{Joints, Met, left, metFault}
 
 -- the first k joints, by the places of their names and by their parents
@@ -28,20 +28,20 @@ pub record WasRead (s : List ℕ) (place : ℕ) (spot : Spot) (starts parents : 
   pub onward : place ≤ spot .at
   pub says : met ≡ left (wordsAt s (spot .at)) (gathered s (spot .joints) starts parents)
 
-abbrev pub Answers : List ℕ → ℕ → Step → List ℕ → List ℕ → Met → Type 0
+abbrev pub Answers : List ℕ → ℕ → Progress → List ℕ → List ℕ → Met → Type 0
 Answers s place (Read spot) starts parents met = WasRead s place spot starts parents met
 Answers s place (Refused k) starts parents met = (metFault met ≡ k) × (1 ≤ k)
 
 -- for every number of turns that is above the bytes left
-abbrev pub Answered : List ℕ → ℕ → Step → List ℕ → List ℕ → (ℕ → Met) → Type 0
+abbrev pub Answered : List ℕ → ℕ → Progress → List ℕ → List ℕ → (ℕ → Met) → Type 0
 Answered s place r starts parents met = (f : ℕ) → length s - place < f → Answers s place r starts parents (met f)
 
 -- the number of a refusal, 0 for none
-abbrev pub stepNumber : Step → ℕ
-stepNumber (Read spot) = 0
-stepNumber (Refused k) = k
+abbrev pub progressNumber : Progress → ℕ
+progressNumber (Read spot) = 0
+progressNumber (Refused k) = k
 
 -- where it has come to lies behind where it began
-abbrev pub Past : ℕ → Step → Type 0
+abbrev pub Past : ℕ → Progress → Type 0
 Past place (Read spot) = place < spot .at
 Past place (Refused k) = record {}

@@ -1,6 +1,6 @@
 // Blocks and their children. Joints are gathered as they are met: the place of each name, and each parent.
+use crate::Progress;
 use crate::Spot;
-use crate::Step;
 use headings::Child;
 use headings::child_of;
 use headings::heading_at;
@@ -20,7 +20,7 @@ pub fn block_at(
     above: u8,
     starts: &mut [usize; 128],
     parents: &mut [u8; 128],
-) -> Step
+) -> Progress
     requires { ⌜ Ready (now text) (spot .at) (spot .joints) (now starts) (now parents) ⌝ }
     ensures { λ r. ⌜ Answered (now (text .entry)) (spot .at) r (now (starts .exit)) (now (parents .exit))
         (λ f. block (children f deeper) above (wordsAt (now (text .entry)) (spot .at))
@@ -29,24 +29,22 @@ pub fn block_at(
     let joints = spot.joints;
     let word = next_word(text, spot.at);
     if word.start == word.end {
-        return Step::Refused(19);
+        return Progress::Refused(19);
     }
     let fault = name_fault(text, starts, joints, word);
     if fault != 0 {
-        return Step::Refused(fault);
+        return Progress::Refused(fault);
     }
     starts[joints] = word.start;
     parents[joints] = above;
     let heading = heading_at(text, word.end);
-    let Reached::At(inside) = heading else {
-        return Step::Refused(19);
+    let Reached::At(at) = heading else {
+        return Progress::Refused(19);
     };
+    let next = joints + 1;
     children_at(
         text,
-        Spot {
-            at: inside,
-            joints: joints + 1,
-        },
+        Spot { at, joints: next },
         deeper,
         joints as u8,
         starts,
@@ -62,7 +60,7 @@ fn children_at(
     own: u8,
     starts: &mut [usize; 128],
     parents: &mut [u8; 128],
-) -> Step
+) -> Progress
     requires { ⌜ Ready (now text) (spot .at) (spot .joints) (now starts) (now parents) ⌝ }
     ensures { λ r. ⌜ Answered (now (text .entry)) (spot .at) r (now (starts .exit)) (now (parents .exit))
         (λ f. children f deeper own (wordsAt (now (text .entry)) (spot .at))
@@ -73,43 +71,31 @@ fn children_at(
     loop {
         let word = next_word(text, at);
         let child = child_of(text, word);
+        at = word.end;
         match child {
             Child::Close => {
-                return Step::Read(Spot {
-                    at: word.end,
-                    joints: joints,
-                });
+                return Progress::Read(Spot { at, joints });
             }
             Child::End => {
-                let site = site_at(text, word.end);
+                let site = site_at(text, at);
                 let Reached::At(behind) = site else {
-                    return Step::Refused(19);
+                    return Progress::Refused(19);
                 };
                 at = behind;
             }
             Child::Joint => {
                 if deeper == 0 {
-                    return Step::Refused(19);
+                    return Progress::Refused(19);
                 }
-                let step = block_at(
-                    text,
-                    Spot {
-                        at: word.end,
-                        joints: joints,
-                    },
-                    deeper - 1,
-                    own,
-                    starts,
-                    parents,
-                );
-                let Step::Read(behind) = step else {
+                let step = block_at(text, Spot { at, joints }, deeper - 1, own, starts, parents);
+                let Progress::Read(behind) = step else {
                     return step;
                 };
                 at = behind.at;
                 joints = behind.joints;
             }
             Child::Other => {
-                return Step::Refused(19);
+                return Progress::Refused(19);
             }
         }
     }

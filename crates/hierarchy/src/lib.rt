@@ -11,7 +11,7 @@ ghost use Prim.Native.Nat.{_≤_};
 ghost use lib.ListN.{length};
 ghost use Rattle.words.specs.Words.{wordsAt};
 ghost use Rattle.hierarchy.specs.Hierarchy.{ends, rootBlock, roots, hierarchy};
-ghost use Rattle.hierarchy.specs.Gathered.{gathered, Ready, Answers, Answered, Past, stepNumber};
+ghost use Rattle.hierarchy.specs.Gathered.{gathered, Ready, Answers, Answered, Past, progressNumber};
 
 // The parent of a root, and how many levels may nest inside its block: JOINT nests to depth 32, and a root has depth 1.
 const ROOT: u8 = 255;
@@ -25,18 +25,18 @@ pub struct Spot {
 }
 
 // What a reader answers: where it has come to, or the number of the refusal.
-pub enum Step {
+pub enum Progress {
     Read(Spot),
     Refused(u8),
 }
 
 // The number of a refusal, 0 for none.
-pub fn number(step: Step) -> u8
-    ensures { λ r. ⌜ r ≡ stepNumber step ⌝ }
+pub fn number(step: Progress) -> u8
+    ensures { λ r. ⌜ r ≡ progressNumber step ⌝ }
 {
     match step {
-        Step::Read(_) => 0,
-        Step::Refused(number) => number,
+        Progress::Read(_) => 0,
+        Progress::Refused(number) => number,
     }
 }
 
@@ -53,7 +53,7 @@ fn ends_at(text: &[u8], at: usize) -> bool
 }
 
 // Reads a ROOT block.
-fn root_at(text: &[u8], spot: Spot, starts: &mut [usize; 128], parents: &mut [u8; 128]) -> Step
+fn root_at(text: &[u8], spot: Spot, starts: &mut [usize; 128], parents: &mut [u8; 128]) -> Progress
     requires { ⌜ Ready (now text) (spot .at) (spot .joints) (now starts) (now parents) ⌝ }
     ensures { λ r. ⌜ Answered (now (text .entry)) (spot .at) r (now (starts .exit)) (now (parents .exit))
         (λ f. rootBlock f (wordsAt (now (text .entry)) (spot .at))
@@ -62,23 +62,14 @@ fn root_at(text: &[u8], spot: Spot, starts: &mut [usize; 128], parents: &mut [u8
 {
     let root = keyword_at(text, spot.at, b"ROOT");
     let Reached::At(at) = root else {
-        return Step::Refused(19);
+        return Progress::Refused(19);
     };
-    block_at(
-        text,
-        Spot {
-            at: at,
-            joints: spot.joints,
-        },
-        DEEPER,
-        ROOT,
-        starts,
-        parents,
-    )
+    let joints = spot.joints;
+    block_at(text, Spot { at, joints }, DEEPER, ROOT, starts, parents)
 }
 
 // Reads ROOT blocks, one or more, up to MOTION or the end.
-fn roots_at(text: &[u8], spot: Spot, starts: &mut [usize; 128], parents: &mut [u8; 128]) -> Step
+fn roots_at(text: &[u8], spot: Spot, starts: &mut [usize; 128], parents: &mut [u8; 128]) -> Progress
     requires { ⌜ Ready (now text) (spot .at) (spot .joints) (now starts) (now parents) ⌝ }
     ensures { λ r. ⌜ Answered (now (text .entry)) (spot .at) r (now (starts .exit)) (now (parents .exit))
         (λ f. roots f (wordsAt (now (text .entry)) (spot .at))
@@ -87,16 +78,8 @@ fn roots_at(text: &[u8], spot: Spot, starts: &mut [usize; 128], parents: &mut [u
     let mut at = spot.at;
     let mut joints = spot.joints;
     loop {
-        let step = root_at(
-            text,
-            Spot {
-                at: at,
-                joints: joints,
-            },
-            starts,
-            parents,
-        );
-        let Step::Read(behind) = step else {
+        let step = root_at(text, Spot { at, joints }, starts, parents);
+        let Progress::Read(behind) = step else {
             return step;
         };
         at = behind.at;
@@ -109,13 +92,13 @@ fn roots_at(text: &[u8], spot: Spot, starts: &mut [usize; 128], parents: &mut [u
 }
 
 // Reads the hierarchy, and gathers its joints: the places of their names, and their parents.
-pub fn read(text: &[u8], starts: &mut [usize; 128], parents: &mut [u8; 128]) -> Step
+pub fn read(text: &[u8], starts: &mut [usize; 128], parents: &mut [u8; 128]) -> Progress
     requires { ⌜ (length (now starts) ≡ 128) × (length (now parents) ≡ 128) ⌝ }
     ensures { λ r. ⌜ Answers (now (text .entry)) 0 r (now (starts .exit)) (now (parents .exit)) (hierarchy (now (text .entry))) ⌝ }
 {
     let word = keyword_at(text, 0, b"HIERARCHY");
     let Reached::At(at) = word else {
-        return Step::Refused(19);
+        return Progress::Refused(19);
     };
-    roots_at(text, Spot { at: at, joints: 0 }, starts, parents)
+    roots_at(text, Spot { at, joints: 0 }, starts, parents)
 }

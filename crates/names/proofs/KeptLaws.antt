@@ -7,6 +7,8 @@ use native.Mathlib.Numerals.{add-one}
 use native.Mathlib.Omega.{arith}
 use lib.ListN.{length, getD, take, set, length-set, length-map, List·getD-map}
 use lib.Seq.{length-take-le, getD-take, take-suc-set, getD-set-same, getD-set-other}
+use lib.Dec.{leb}
+use borrow.Author.Tests.{leb-true, leb-false}
 use Rattle.base.proofs.Cases.{case, eq-ne}
 use Rattle.base.proofs.Places.{getD-inside}
 use Rattle.base.specs.Below.{anyBelow}
@@ -22,6 +24,13 @@ module _ {s : List ℕ} {k : ℕ} {starts : List ℕ} (placed : Placed s k start
 
   pub names-length : length (namesAt s k starts) ≡ k
   names-length = length-map (take k starts) (wordAt s) ∙ first-places
+
+  -- are there as many as there may be?
+  pub full-length : leb 128 k ≡ true → 128 ≤ length (namesAt s k starts)
+  full-length h = let n = names-length in let l = leb-true 128 k h in omega arith
+
+  pub room-length : leb 128 k ≡ false → length (namesAt s k starts) < 128
+  room-length h = let n = names-length in let l = leb-false 128 k h in omega arith
 
   pub name-at : (i : ℕ) → i < k → nameOf (namesAt s k starts) i ≡ wordAt s (getD starts i 0)
   name-at i l =

@@ -1,6 +1,6 @@
 -- Laws of names and their first fault: one more name, and names behind one that is refused.
 use mathlib.Core.Path.{_≡_, refl, sym, _∙_}
-use mathlib.Core.Bool.{true, false}
+use mathlib.Core.Bool.{Bool, true, false}
 use mathlib.Core.List.{List, [], _∷_, _++_}
 use Prim.Native.Nat.{ℕ, _≤_, _<_}
 use native.Mathlib.Numerals.{add-one}
@@ -11,25 +11,30 @@ use borrow.Author.Tests.{le-leb, lt-leb, leb-false}
 use Rattle.base.specs.Faults.{firstFault, faultBelow}
 use Rattle.base.proofs.Faults.{first-none, when-none, below-stays, below-same}
 use Rattle.words.specs.Words.{Words}
-use Rattle.names.specs.Names.{isName, isKnown, nameFault, faultAt, namesFault}
+use Rattle.names.specs.Names.{isName, isKnown, isUnfit, nameFault, faultAt, namesFault}
 
--- A WORD AFTER NAMES: there are too many, it cannot be a label, it is one of them, it is new
+-- A WORD AFTER NAMES: it cannot be a label, or is one of them
 module _ (names : Words) (w : List ℕ) where
+  pub no-label : isName w ≡ false → true ≡ isUnfit names w
+  unfolding isUnfit
+  no-label e = rw e refl
+
+  pub label-known : {known : Bool} → isName w ≡ true → known ≡ isKnown names w → known ≡ isUnfit names w
+  unfolding isUnfit
+  label-known e k = rw e k
+
+  -- there are too many; it is unfit; it is new
   pub one-too-many : 128 ≤ length names → 2 ≡ nameFault names w
   unfolding nameFault firstFault
   one-too-many h = rw (le-leb 128 (length names) h) refl
 
-  pub no-label : length names < 128 → isName w ≡ false → 20 ≡ nameFault names w
+  pub name-unfit : length names < 128 → isUnfit names w ≡ true → 20 ≡ nameFault names w
   unfolding nameFault firstFault
-  no-label h e = rw (lt-leb 128 (length names) h, e) refl
+  name-unfit h e = rw (lt-leb 128 (length names) h, e) refl
 
-  pub name-again : length names < 128 → isName w ≡ true → isKnown names w ≡ true → 20 ≡ nameFault names w
+  pub name-new : length names < 128 → isUnfit names w ≡ false → 0 ≡ nameFault names w
   unfolding nameFault firstFault
-  name-again h e k = rw (lt-leb 128 (length names) h, e, k) refl
-
-  pub name-new : length names < 128 → isName w ≡ true → isKnown names w ≡ false → 0 ≡ nameFault names w
-  unfolding nameFault firstFault
-  name-new h e k = rw (lt-leb 128 (length names) h, e, k) refl
+  name-new h e = rw (lt-leb 128 (length names) h, e) refl
 
   pub name-room : nameFault names w ≡ 0 → length names < 128
   unfolding nameFault

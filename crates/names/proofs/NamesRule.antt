@@ -1,6 +1,6 @@
 -- The faults of names mean the request's rule.
 use mathlib.Core.Path.{_≡_, refl, sym, _∙_}
-use mathlib.Core.Bool.{Bool, true, false, not, _||_}
+use mathlib.Core.Bool.{Bool, true, false, not}
 use mathlib.Core.List.{List, [], _∷_}
 use mathlib.Core.Logic.{_⊎_, inl, inr, _≢_}
 use Prim.Native.Nat.{ℕ, _+_, _≤_, _<_}
@@ -18,7 +18,7 @@ use Rattle.sections.specs.Labels.{visibleRun}
 use Rattle.sections.proofs.LabelLaws.{same-true, same-equal}
 use Rattle.sections.proofs.LabelRule.{visible-range, range-visible, run-seen, run-is}
 use Rattle.words.specs.Words.{Words}
-use Rattle.names.specs.Names.{nameOf, isName, isNamed, isKnown, nameFault, faultAt, namesFault}
+use Rattle.names.specs.Names.{nameOf, isName, isNamed, isKnown, isUnfit, nameFault, faultAt, namesFault}
 use Rattle.names.specs.Claims.{Name, GoodNames, NamesRule, TooMany, FirstBad, NamesRefused}
 
 -- A NAME
@@ -37,7 +37,7 @@ is-name w r =
 
 -- A NAME AFTER OTHERS has no fault exactly if it is one and new, and there is room
 fresh : (names : Words) (w : List ℕ) → nameFault names w ≡ 0 → (length names < 128) × (Name w × ((j : ℕ) → j < length names → w ≢ nameOf names j))
-unfolding nameFault isKnown
+unfolding nameFault isUnfit isKnown
 fresh names w h =
     let (many, rest) = first-none _ _ h in
     let (bad, none) = first-none _ _ rest in
@@ -47,7 +47,7 @@ fresh names w h =
     )
 
 fresh-fault : (names : Words) (w : List ℕ) → length names < 128 → Name w → ((j : ℕ) → j < length names → w ≢ nameOf names j) → nameFault names w ≡ 0
-unfolding nameFault isKnown firstFault
+unfolding nameFault isUnfit isKnown firstFault
 fresh-fault names w few form new =
     rw (lt-leb 128 (length names) few, is-name w form, none-any (length names) (isNamed names w) (λ j l. not-so _ (λ h. new j l (sym (same-equal _ _ h))))) refl
 
@@ -58,7 +58,7 @@ unfolding nameFault firstFault
 fault-number names w h =
     case (lt-ge (length names) 128)
     (λ l. let e = lt-leb 128 (length names) l in
-    inr (l, rw e (twenty (not (isName w) || isKnown names w) (rw e at h))))
+    inr (l, rw e (twenty (isUnfit names w) (rw e at h))))
     (λ g. inl (g, rw (le-leb 128 (length names) g) refl))
   where
     twenty : (b : Bool) → (firstFault (when b 20 ∷ []) ≡ 0 → ⊥) → firstFault (when b 20 ∷ []) ≡ 20

@@ -23,9 +23,12 @@ isNamed names w i = sameBytes (nameOf names i) w
 unfoldable pub isKnown : Words → List ℕ → Bool
 isKnown names w = anyBelow (length names) (isNamed names w)
 
+unfoldable pub isUnfit : Words → List ℕ → Bool
+isUnfit names w = not (isName w) || isKnown names w
+
 -- a word that comes as a name after these: 2, there are 128 names already; 20, it cannot be a label or is one of them
 unfoldable pub nameFault : Words → List ℕ → ℕ
-nameFault names w = firstFault (when (leb 128 (length names)) 2 ∷ when (not (isName w) || isKnown names w) 20 ∷ [])
+nameFault names w = firstFault (when (leb 128 (length names)) 2 ∷ when (isUnfit names w) 20 ∷ [])
 
 -- the first fault of names, each met after those before it
 abbrev pub faultAt : Words → ℕ → ℕ

@@ -10,7 +10,7 @@ ghost use lib.ListN.{length};
 ghost use Rattle.words.specs.Words.{wordAt};
 ghost use Rattle.words.specs.Met.{IsWord};
 ghost use Rattle.sections.specs.Labels.{sameBytes};
-ghost use Rattle.names.specs.Names.{isName, isKnown, nameFault};
+ghost use Rattle.names.specs.Names.{isName, isKnown, isUnfit, nameFault};
 ghost use Rattle.names.specs.Kept.{namesAt, Placed};
 
 // As many joints as a sheet can have.
@@ -56,22 +56,32 @@ fn is_known(text: &[u8], starts: &[usize; 128], joints: usize, word: Word) -> bo
     false
 }
 
+// Is a word no name that may come after these: it cannot be a label, or it is one of them?
+fn is_unfit(text: &[u8], starts: &[usize; 128], joints: usize, word: Word) -> bool
+    requires { ⌜ Placed (now text) joints (now starts) × IsWord (now text) (word .start) (word .end) ⌝ }
+    ensures { λ r. ⌜ r ≡ isUnfit (namesAt (now (text .entry)) joints (now (starts .entry))) (wordAt (now (text .entry)) (word .start)) ⌝ }
+{
+    let start = word.start;
+    let end = word.end;
+    let fits = is_name(&text[start..end]);
+    if fits {
+        is_known(text, starts, joints, word)
+    } else {
+        true
+    }
+}
+
 // The number of the refusal that a word brings as the name after these, 0 for none.
 pub fn name_fault(text: &[u8], starts: &[usize; 128], joints: usize, word: Word) -> u8
     requires { ⌜ Placed (now text) joints (now starts) × IsWord (now text) (word .start) (word .end) ⌝ }
     ensures { λ r. ⌜ r ≡ nameFault (namesAt (now (text .entry)) joints (now (starts .entry))) (wordAt (now (text .entry)) (word .start)) ⌝ }
 {
-    if MOST <= joints {
+    let full = MOST <= joints;
+    let unfit = is_unfit(text, starts, joints, word);
+    if full {
         return 2;
     }
-    let start = word.start;
-    let end = word.end;
-    let fits = is_name(&text[start..end]);
-    if !fits {
-        return 20;
-    }
-    let known = is_known(text, starts, joints, word);
-    if known {
+    if unfit {
         return 20;
     }
     0

@@ -4,7 +4,7 @@ use mathlib.Core.Bool.{Bool}
 use mathlib.Core.List.{List}
 use Prim.Native.Nat.{ℕ, _*_, _≤_, _<_}
 use native.Mathlib.Omega.{arith}
-use lib.ListN.{getD}
+use lib.ListN.{length, getD}
 use Rattle.sheet.proofs.PromiseKept.{accepted-square}
 use Rattle.matching.proofs.PairNumbers.{pair-number-small}
 use Rattle.blocking.specs.declared.Checked.the-variants as K
@@ -17,6 +17,9 @@ use Rattle.promises.proofs.CallsKeep.{calls-keep}
 use Rattle.promises.proofs.CheckKeeps.{check-keeps}
 use Rattle.skeleton.specs.Answers.{astrayBy, followOf}
 use Rattle.skeleton.proofs.FollowsKept.{follows-kept}
+use Rattle.bvh.specs.declared.Imported.the-variants as I
+use Rattle.bvh.specs.Answers.{importOf}
+use Rattle.bvh.proofs.ImportKept.{import-kept}
 use Rattle.quote.specs.declared.Quoted.the-variants as Q
 use Rattle.quote.specs.Quotes.{quoteAnswer}
 use Rattle.quote.proofs.QuotesKept.{quotes-kept}
@@ -38,6 +41,9 @@ check-pair-small s m k e =
 
 pub follow-small : (s m : List ℕ) (k l : ℕ) → followOf s m ≡ astrayBy k l → (k < 256) × (l < 65536)
 follow-small s m k l e = let few = follows-kept s m .few k l e in (omega (arith, few .0), omega (arith, few .1))
+
+pub import-small : (s out : List ℕ) (size : ℕ) → importOf s (length out) ≡ I.Sheet size → size < 65536
+import-small s out size e = omega (arith, import-kept s out .at-most size e)
 
 pub proposals-small : (whole : Bool) (s cs : List ℕ) → countsOf whole s cs .proposals < 65536
 proposals-small whole s cs = omega (arith, calls-keep s .counts-small whole cs .0)

@@ -13,6 +13,8 @@ use Rattle.quote.specs.declared.Quoted.{Quoted}
 use Rattle.quote.specs.declared.Quoted.the-variants as Q
 use Rattle.skeleton.specs.declared.Followed.{Followed}
 use Rattle.skeleton.specs.declared.Followed.the-variants as F
+use Rattle.bvh.specs.declared.Imported.{Imported}
+use Rattle.bvh.specs.declared.Imported.the-variants as I
 
 -- The version of the interface: raised by each landing that changes the meaning or the signature of a call.
 abbrev pub version : ℕ
@@ -55,3 +57,8 @@ abbrev pub followedCode : Followed → ℕ
 followedCode (F.Refused k) = packed k 0 0
 followedCode F.All = packed 0 0 0
 followedCode (F.Astray strays) = packed 0 (strays .pairs) (strays .lowest)
+
+-- The sheet's length behind the refusal's byte, which is 0 then.
+abbrev pub importedCode : Imported → ℕ
+importedCode (I.Refused k) = k
+importedCode (I.Sheet size) = 256 * size

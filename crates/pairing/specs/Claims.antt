@@ -6,7 +6,8 @@ use Rattle.calls.specs.declared.Phase.the-variants as P
 use Rattle.quote.specs.declared.Quoted.the-variants as Q
 use Rattle.skeleton.specs.declared.Followed.the-variants as F
 use Rattle.skeleton.specs.Answers.{astrayBy}
-use Rattle.pairing.specs.CCodes.{packed, countsCode, quotedCode, followedCode}
+use Rattle.bvh.specs.declared.Imported.the-variants as I
+use Rattle.pairing.specs.CCodes.{packed, countsCode, quotedCode, followedCode, importedCode}
 
 -- MIRROR_REFUSAL; MIRROR_VERDICT, MIRROR_HOLDS and MIRROR_ASTRAY; MIRROR_COUNT, MIRROR_PAIR and MIRROR_SUM
 abbrev pub PartsReadBack : Type 0
@@ -27,6 +28,13 @@ pub record FollowNumbers : Type 0 where
   pub refused : (k : ℕ) → followedCode (F.Refused k) ≡ k
   pub all : followedCode F.All ≡ 0
   pub astray : (pairs lowest : ℕ) → followedCode (astrayBy pairs lowest) ≡ 256 * pairs + 65536 * lowest
+
+-- mirror_import's numbers: a refusal alone, or the sheet's length above its byte; and MIRROR_REFUSAL and MIRROR_LENGTH, which read them back
+pub record ImportNumbers : Type 0 where
+  pub refused : (k : ℕ) → importedCode (I.Refused k) ≡ k
+  pub sheet : (size : ℕ) → importedCode (I.Sheet size) ≡ 256 * size
+  pub read-refused : (k : ℕ) → k < 256 → (importedCode (I.Refused k) % 256 ≡ k) × (importedCode (I.Refused k) / 256 ≡ 0)
+  pub read-sheet : (size : ℕ) → (importedCode (I.Sheet size) % 256 ≡ 0) × (importedCode (I.Sheet size) / 256 ≡ size)
 
 -- MIRROR_REFUSAL, MIRROR_PROPOSALS and MIRROR_CUTS
 abbrev pub CountsReadBack : Type 0

@@ -2,6 +2,7 @@
 pub mod checking;
 pub mod counting;
 pub mod following;
+pub mod importing;
 pub mod quoting;
 pub mod settling;
 pub mod shortening;

@@ -142,8 +142,8 @@ block-at-returns-3 t c =
       omega arith,
     )
 
-block-at-add-t14 : (t : ℕ) → block-at-lts.Need-add-t14 (block-claims t) (block-at-at t) block-at.Post
-block-at-add-t14 t c =
+block-at-add-next : (t : ℕ) → block-at-lts.Need-add-next (block-claims t) (block-at-at t) block-at.Post
+block-at-add-next t c =
     let few = name-few t (c .before .before .before .before) in
     omega arith
 
@@ -333,7 +333,7 @@ pub +block-at+children-at-spec : {M : Type 1} → statement M
     (block-at-enum-known-heading t)
     (block-at-enum-told t)
     (block-at-returns-3 t)
-    (block-at-add-t14 t)
+    (block-at-add-next t)
     (block-at-cast-children-at t)
     (block-at-children-at-requires t)
     (block-at-returns-4 t))

@@ -1,0 +1,2 @@
+-- Texts that are cut short.
+pub mod Cut
