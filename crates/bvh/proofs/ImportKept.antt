@@ -72,7 +72,7 @@ module _ (s : List ℕ) (h : Roots) (spells : Spells s h) where
   spelt-out : ReadOut (hierarchy s)
   spelt-out = (spelt-left .0, spelt-left .1 ∙ ap (left (spelt-left .0)) (sym spelt-joints))
 
-  spelt-sheet : sheetIn s ≡ sheetFor (jointsIn h)
+  pub spelt-sheet : sheetIn s ≡ sheetFor (jointsIn h)
   spelt-sheet = ap sheetFor spelt-joints
 
   spelt-good : metFault (hierarchy s) ≡ 0 → GoodNames (rootNames h)

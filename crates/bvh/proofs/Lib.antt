@@ -6,4 +6,5 @@ pub mod ImportLaws
 pub mod GivesBack
 pub mod ImportKept
 pub mod Within
+pub mod CutPasses
 pub mod WorkedRows

@@ -1,6 +1,6 @@
 -- That the sheet gives back the hierarchy, and what a caller may conclude from the call's answer.
 use mathlib.Core.Path.{_≡_}
-use mathlib.Core.List.{List, []}
+use mathlib.Core.List.{List, [], _∷_, _++_}
 use mathlib.Core.Logic.{_⊎_, _≢_, _↔_}
 use Prim.Native.Nat.{ℕ, _≤_, _<_}
 use lib.ListN.{length, take, drop}
@@ -11,6 +11,7 @@ use Rattle.words.specs.Words.{Words}
 use Rattle.names.specs.Names.{nameOf}
 use Rattle.names.specs.Claims.{GoodNames, TooMany, FirstBad}
 use Rattle.hierarchy.specs.Hierarchy.{hierarchy, jointsMet}
+use Rattle.hierarchy.specs.Claims.{cutMark}
 use Rattle.hierarchy.specs.Spelt.{Roots, rootNames, rootEnclosing, jointsIn, Spells}
 use Rattle.bvh.specs.declared.Imported.the-variants as I
 use Rattle.bvh.specs.Written.{labelFor, sheetFor}
@@ -62,3 +63,8 @@ pub record ImportKeeps (s out : List ℕ) : Type 0 where
 
 abbrev pub ImportKept : Type 0
 ImportKept = (s out : List ℕ) → ImportKeeps s out
+
+-- A TEXT CUT SHORT, with a mark at the cut: where it becomes a sheet, the whole text becomes the same one, however it goes on.
+abbrev pub CutPasses : Type 0
+CutPasses = (s later out : List ℕ) (size : ℕ) → importOf (s ++ (cutMark ∷ [])) (length out) ≡ I.Sheet size
+    → (importOf (s ++ later) (length out) ≡ I.Sheet size) × (importInto (s ++ later) out ≡ importInto (s ++ (cutMark ∷ [])) out)

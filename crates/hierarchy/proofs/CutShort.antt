@@ -11,13 +11,13 @@ use Rattle.words.specs.Words.{Words, isGap, run, wordsAfter, words}
 use Rattle.words.proofs.WordLaws.{byte-run, gap-after}
 use Rattle.headings.specs.Keywords.{hierarchyWord, closeWord, motionWord}
 use Rattle.hierarchy.specs.Spelt.{Inside, nothing, endSite, joint, Roots, single, more, speltInside, speltRoots, Spells}
-use Rattle.hierarchy.specs.Claims.{CutShort}
+use Rattle.hierarchy.specs.Claims.{cutMark, CutShort}
 
 -- THE WORDS BEFORE THE CUT stay, however the text goes on; the last one, which the cut may part, ends in its byte
 record Cut (begun : Bool) (s : List ℕ) : Type 0 where
   kept : Words
   part : List ℕ
-  cut : wordsAfter begun (s ++ (35 ∷ [])) ≡ kept ++ ((part ++ (35 ∷ [])) ∷ [])
+  cut : wordsAfter begun (s ++ (cutMark ∷ [])) ≡ kept ++ ((part ++ (cutMark ∷ [])) ∷ [])
   onward : (later : List ℕ) → (rest : Words) × (wordsAfter begun (s ++ later) ≡ kept ++ rest)
 
 -- a text with no gap is the beginning of a word; with one, its first word is whole
@@ -35,7 +35,7 @@ gap-cut b begun s e c =
     record {
       kept = c .kept;
       part = c .part;
-      cut = gap-after b begun (s ++ (35 ∷ [])) e ∙ c .cut;
+      cut = gap-after b begun (s ++ (cutMark ∷ [])) e ∙ c .cut;
       onward = λ later. (c .onward later .0, gap-after b begun (s ++ later) e ∙ c .onward later .1);
     }
 
@@ -46,7 +46,7 @@ byte-last b s e n =
     record {
       kept = [];
       part = b ∷ s;
-      cut = rw (e, n .longer (35 ∷ []), n .inside (35 ∷ []));
+      cut = rw (e, n .longer (cutMark ∷ []), n .inside (cutMark ∷ []));
       onward = λ later. (words (b ∷ (s ++ later)), refl);
     }
 
@@ -62,7 +62,7 @@ byte-first b s e g =
     record {
       kept = (b ∷ run s) ∷ c .kept;
       part = c .part;
-      cut = rw (e, byte-run b _ e, g .same (35 ∷ []), c .cut);
+      cut = rw (e, byte-run b _ e, g .same (cutMark ∷ []), c .cut);
       onward = λ later. (c .onward later .0, rw (e, byte-run b _ e, g .same later, c .onward later .1));
     }
 
@@ -102,9 +102,9 @@ roots-close w (single name o c inside) = simp final-append (inside-closes _ insi
 roots-close w (more name o c inside after) = simp final-append (roots-close _ after)
 
 -- the last byte of a word that the cut parts, by which it is neither a closing brace nor MOTION
-cut-last : (part w : List ℕ) → part ++ (35 ∷ []) ≡ w → final 0 w ≡ 35
+cut-last : (part w : List ℕ) → part ++ (cutMark ∷ []) ≡ w → final 0 w ≡ cutMark
 unfolding final
-cut-last part w e = rw (← e, final-append 0 part (35 ∷ []))
+cut-last part w e = rw (← e, final-append 0 part (cutMark ∷ []))
 
 -- a word of a list is its last one, or stands before that
 last-or-before : (kept : Words) (w : List ℕ) (front : Words) (v : List ℕ) (rest : Words) → kept ++ (w ∷ []) ≡ front ++ (v ∷ rest)
@@ -117,11 +117,11 @@ last-or-before (k ∷ kept) w (f ∷ front) v rest e =
     case (last-or-before kept w front v rest tails) inl (λ m. inr (m .0, cc (m .1)))
 
 -- so at the cut the text has not ended, and MOTION stands before it
-module _ (s : List ℕ) (h : Roots) (c : Cut false s) (p : Spells (s ++ (35 ∷ [])) h) where
+module _ (s : List ℕ) (h : Roots) (c : Cut false s) (p : Spells (s ++ (cutMark ∷ [])) h) where
   not-ended : p .after ≡ [] → ⊥
   unfolding final
   not-ended e =
-      let whole : c .kept ++ ((c .part ++ (35 ∷ [])) ∷ []) ≡ hierarchyWord ∷ (speltRoots h ++ []) = cc (c .cut, p .whole) in
+      let whole : c .kept ++ ((c .part ++ (cutMark ∷ [])) ∷ []) ≡ hierarchyWord ∷ (speltRoots h ++ []) = cc (c .cut, p .whole) in
       let last = simp (final-append, roots-close) at (ap (final []) whole) in
       let z = cut-last (c .part) closeWord last in
       omega arith
@@ -129,7 +129,7 @@ module _ (s : List ℕ) (h : Roots) (c : Cut false s) (p : Spells (s ++ (35 ∷ 
   motion-before : (motion : Words) → p .after ≡ motionWord ∷ motion → (mid : Words) × (c .kept ≡ hierarchyWord ∷ (speltRoots h ++ (motionWord ∷ mid)))
   unfolding final
   motion-before motion e =
-      let whole : c .kept ++ ((c .part ++ (35 ∷ [])) ∷ []) ≡ (hierarchyWord ∷ speltRoots h) ++ (motionWord ∷ motion) = cc (c .cut, p .whole) in
+      let whole : c .kept ++ ((c .part ++ (cutMark ∷ [])) ∷ []) ≡ (hierarchyWord ∷ speltRoots h) ++ (motionWord ∷ motion) = cc (c .cut, p .whole) in
       case (last-or-before (c .kept) _ (hierarchyWord ∷ speltRoots h) motionWord motion whole)
       (λ same. absurd (let z = cut-last (c .part) motionWord same in omega arith))
       (λ m. m)

@@ -11,3 +11,4 @@ mod ReadForm
 pub mod ReadSpelt
 pub mod Lower
 pub mod CutShort
+pub mod NestsByDepth

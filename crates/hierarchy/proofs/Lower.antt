@@ -11,7 +11,7 @@ use Rattle.hierarchy.specs.Spelt.{Inside, nothing, endSite, joint, Roots
 use Rattle.hierarchy.specs.Claims.{ParentsLower}
 
 -- ONE FOR EACH NAME
-inside-each : (i : Inside) (own k : ℕ) → length (enclosing own k i) ≡ length (namesIn i)
+pub inside-each : (i : Inside) (own k : ℕ) → length (enclosing own k i) ≡ length (namesIn i)
 unfolding enclosing namesIn
 inside-each nothing own k = refl
 inside-each (endSite o after) own k = inside-each after own k
