@@ -1,7 +1,7 @@
 // Reads a BVH text on standard input and writes the sheet of its hierarchy to standard output; or it writes nothing there, and `refused` with a
 // number to standard error.
 //
-// At most 262,144 bytes are read. Where more follow, or a read fails, the text is cut short: a mark stands at the cut, behind which a hierarchy
+// At most 131,072 bytes are read. Where more follow, or a read fails, the text is cut short: a mark stands at the cut, behind which a hierarchy
 // that MOTION has not ended is refused with 19. So what passes is the hierarchy of the whole input, however this goes on.
 use bvh::Imported;
 use io::read_full;
@@ -64,7 +64,7 @@ fn answer(text: &[u8]) {
 }
 
 fn main() {
-    let mut text = [0u8; 262145];
+    let mut text = [0u8; 131073];
     let size = read_text(&mut text);
     answer(&text[..size]);
 }
