@@ -260,7 +260,7 @@ fn try_number(counts: [u32; 40], table: &[[u8; 32]; 128], k: u32) -> [u32; 40] {
 fn try_all(counts: [u32; 40], table: &[[u8; 32]; 128]) -> [u32; 40] {
     let mut sums = counts;
     let mut k = 0;
-    while k < 12000 {
+    while k < 12545 {
         let more = try_number(sums, table, k);
         sums = more;
         k += 1;

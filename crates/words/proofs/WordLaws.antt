@@ -34,7 +34,7 @@ unfolding run
 run-front [] = refl
 run-front (b ∷ s) = case (both-ways (isGap b)) (λ e. rw e) (λ e. rw e (ap (λ (t : List ℕ). b ∷ t) (run-front s)))
 
-pub after-run : (s : List ℕ) → wordsAfter true s ≡ words (drop (length (run s)) s)
+after-run : (s : List ℕ) → wordsAfter true s ≡ words (drop (length (run s)) s)
 unfolding run wordsAfter
 after-run [] = refl
 after-run (b ∷ s) = case (both-ways (isGap b)) (λ e. rw (e, e)) (λ e. rw e (after-run s))

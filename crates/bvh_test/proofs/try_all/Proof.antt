@@ -5,10 +5,10 @@ use Rattle.bvh_test.proofs.try_all.Statement.{statement}
 use Rattle.bvh_test.proofs.try_all.Tie as tie
 
 abbrev Inv-loop : tie.InvT-loop
-Inv-loop table sums₀ k₀ sums k = k ≤ 12000
+Inv-loop table sums₀ k₀ sums k = k ≤ 12545
 
 abbrev μ-loop : tie.MeasureT-loop
-μ-loop table sums₀ k₀ sums k = 12000 - k
+μ-loop table sums₀ k₀ sums k = 12545 - k
 
 pub try-all-spec : {M : Type 1} → statement M
 try-all-spec =
