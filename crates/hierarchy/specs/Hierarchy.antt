@@ -45,8 +45,8 @@ unfoldable pub block : (ℕ → Words → Joints → Met) → ℕ → Words → 
 block inside above [] js = broken js
 block inside above (name ∷ ws) js = behind (heading ws) (named js name above) (λ on. inside (length (js .names)) on (named js name above))
 
--- ITS CHILDREN: JOINT blocks and End Sites in any number and order, up to the closing brace
--- behind a child's first word, in block `own`, in which blocks may nest `deeper` levels more; `children` reads on
+-- ITS CHILDREN: JOINT blocks and End Sites in any number and order, up to the closing brace. Here behind the first word of one, in block `own`, in
+-- which blocks may nest `deeper` levels more; `children` reads on.
 unfoldable pub child : Child → (ℕ → ℕ → Words → Joints → Met) → ℕ → ℕ → Words → Joints → Met
 child Close children deeper own ws js = left ws js
 child End children deeper own ws js = behind (site ws) js (λ on. children deeper own on js)
