@@ -1,2 +1,3 @@
--- Texts that are cut short.
+-- Texts that are cut short, and what is said of a refusal.
 pub mod Cut
+pub mod Said

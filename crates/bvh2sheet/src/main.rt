@@ -14,6 +14,7 @@ ghost use Prim.Native.Nat.{_<_, _≤_};
 ghost use lib.ListN.{length, take};
 ghost use Rattle.io.specs.Counts.{Counts};
 ghost use Rattle.bvh2sheet.specs.Cut.{closed};
+ghost use Rattle.bvh2sheet.specs.Said.{refusedLine};
 
 // Puts a mark behind the bytes that were read, unless the input ended there. Returns how many bytes the text has then.
 fn close(text: &mut [u8], size: usize, ended: bool) -> usize
@@ -47,9 +48,18 @@ fn number(answer: Imported) -> u8 {
     }
 }
 
+// Writes what is said of a refusal, and returns its length.
+fn write_refused(number: u8, line: &mut [u8]) -> usize
+    requires { ⌜ 12 ≤ length (now line) ⌝ }
+    ensures { λ r. ⌜ Counts r (now (line .exit)) ⌝ }
+    ensures { λ r. ⌜ take r (now (line .exit)) ≡ refusedLine number ⌝ }
+{
+    writing::write_number_line(b"refused ", base::wide(number), 0, line)
+}
+
 fn say_refused(number: u8) {
-    let mut line = [0u8; 16];
-    let end = writing::write_number_line(b"refused ", base::wide(number), 0, &mut line);
+    let mut line = [0u8; 12];
+    let end = write_refused(number, &mut line);
     write_all(STDERR_FILENO, &line[..end]);
 }
 
