@@ -1,4 +1,6 @@
 // One record acts on a working and its marks. For the crates above, which prove what they require.
+#![tactic(auto)]
+
 ghost use Rattle.std.specs.Prelude.{◌≡◌, Bool, List, ℕ, length};
 ghost use Rattle.roommates.specs.Lists.{Square};
 ghost use Rattle.records.specs.Records.{acted, stepped, mark_set, returned_to, acts, marked, unmarked};

@@ -1,11 +1,11 @@
 -- What a test tells of its parts, and its parts of it.
 use mathlib.Core.Path.{◌≡◌, refl, sym, ◌∙◌}
-use mathlib.Core.Bool.{Bool, true, false, not, ◌&&◌, ◌||◌, true≢false, false≢true}
+use mathlib.Core.Bool.{Bool, true, false, ◌&&◌, ◌||◌, true≢false, false≢true}
 use mathlib.Core.Logic.{◌⊎◌, inl, inr}
 use Prim.Native.Nat.{ℕ}
 use native.Mathlib.Omega.{arith}
 use lib.Dec.{ltb}
-use borrow.Author.Tests.{lt-ltb, le-ltb, not-true, not-false}
+use borrow.Author.Tests.{lt-ltb, le-ltb}
 
 pub never : (b : Bool) → b ≡ true → b ≡ false → ⊥
 never true p q = true≢false q
@@ -32,11 +32,11 @@ and_true true b h = (refl, h)
 and_true false b h = absurd (false≢true h)
 
 -- a call's answer r, tested as `!r`
-pub said_yes : {r b : Bool} → r ≡ b → not r ≡ false → b ≡ true
-said_yes {r} e h = sym e ∙ not-false r h
+pub said_yes : {r b : Bool} → r ≡ b → r ≡ true → b ≡ true
+said_yes e h = sym e ∙ h
 
-pub said_no : {r b : Bool} → r ≡ b → not r ≡ true → b ≡ false
-said_no {r} e h = sym e ∙ not-true r h
+pub said_no : {r b : Bool} → r ≡ b → r ≡ false → b ≡ false
+said_no e h = sym e ∙ h
 
 -- a band of 0 is unlisted
 pub unlisted : (x : ℕ) → x ≡ 0 → ltb 0 x ≡ false

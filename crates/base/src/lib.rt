@@ -1,4 +1,6 @@
 // General code that every crate may use.
+#![tactic(auto)]
+
 ghost use Rattle.std.specs.Prelude.{◌≡◌, ◌<◌};
 
 // A byte as a number that sums and products fit.

@@ -1,4 +1,6 @@
 // Which pair blocks a matching, and what offered partner bytes are worth.
+#![tactic(auto)]
+
 ghost use Rattle.std.specs.Prelude.{true, ◌≡◌, ◌≤◌, ◌<◌, length};
 ghost use Rattle.matching.specs.Matchings.{is_matching};
 ghost use Rattle.blocking.specs.Blocking.{welcomes, is_apart, blocks, blocker, blocking_pair};
@@ -7,7 +9,7 @@ ghost use Rattle.blocking.specs.Answers.{verdict_of, offer_of};
 use matching::{ALONE, is_matching, pair_number, partner};
 
 // What check answers: a refusal by its number, that the pairing holds, or the lowest blocking pair's number.
-#[derive(Drop)]
+#[derive(Clone, Copy)]
 pub enum Checked {
     Refused(u8),
     Holds,

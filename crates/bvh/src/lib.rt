@@ -1,4 +1,6 @@
 // The call import, by which the hierarchy of a BVH text becomes a sheet.
+#![tactic(auto)]
+
 mod sheets;
 
 ghost use Rattle.std.specs.Prelude.{◌≡◌, length};
@@ -7,7 +9,7 @@ ghost use Rattle.bvh.specs.Answers.{import_of, import_into};
 use hierarchy::Progress;
 
 // What the call answers: the sheet's length in bytes, or the number of the refusal.
-#[derive(Drop)]
+#[derive(Clone, Copy)]
 pub enum Imported {
     Sheet(usize),
     Refused(u8),

@@ -3,6 +3,8 @@
 //
 // At most 131,072 bytes are read. Where more follow, or a read fails, the text is cut short: a mark stands at the cut, behind which a hierarchy
 // that MOTION has not ended is refused with 19. So what passes is the hierarchy of the whole input, however this goes on.
+#![tactic(auto)]
+
 ghost use Rattle.std.specs.Prelude.{◌≡◌, ◌<◌, ◌≤◌, length, take};
 ghost use Rattle.io.specs.Counts.{IsPrefixLen};
 ghost use Rattle.bvh2sheet.specs.Cut.{closed};

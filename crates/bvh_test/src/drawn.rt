@@ -27,7 +27,7 @@ const FIRST: [u8; 8] = [1, 2, 7, 4, 9, 0, NOTHING, NOTHING];
 
 // What a text is made by: the generator's seed; 10 for hierarchies that nest deep, 11 for those with many joints, or another mode; and a change
 // at a place: none (kind 0), a word is left out (1), another stands in its place (2), another stands before it (3), the text is cut at a byte (4).
-#[derive(Drop)]
+#[derive(Clone, Copy)]
 pub struct Recipe {
     pub seed: u32,
     pub mode: u32,
@@ -38,7 +38,7 @@ pub struct Recipe {
 
 // Where the walk is: the generator's number, the piece, which of its words comes next and how many they are, how many blocks are open, how many names
 // there are; and the number of the gap, and the word, that came last.
-#[derive(Drop)]
+#[derive(Clone, Copy)]
 struct Walk {
     at: u32,
     piece: u32,

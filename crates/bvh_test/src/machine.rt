@@ -52,7 +52,7 @@ const MOST: usize = 20000;
 const NO_COUNT: usize = 30000;
 
 // A word: its bytes, with zeros behind them, and how many they are; what it counts; and whether it can be a name.
-#[derive(Drop)]
+#[derive(Clone, Copy)]
 pub struct Word {
     row: [u8; 32],
     length: usize,
@@ -62,7 +62,7 @@ pub struct Word {
 
 // What must come next, and how many words of any kind come before it; how many blocks are open, and the last of them; how many names were met, and
 // the sum of their parents.
-#[derive(Drop)]
+#[derive(Clone, Copy)]
 pub struct State {
     pub due: u32,
     pub left: usize,

@@ -1,5 +1,7 @@
 // Tries import beside a machine of its own: one text with every change of a word and every cut, and random texts, whole, changed or cut; with four
 // kinds of buffers in turn.
+#![tactic(auto)]
+
 mod drawn;
 mod machine;
 mod spelling;
@@ -133,7 +135,7 @@ fn count_answer(counts: [u32; 40], place: usize, said: usize, state: State) -> [
 }
 
 // What a call answers, and what it leaves in the buffer.
-#[derive(Drop)]
+#[derive(Clone, Copy)]
 struct Answer {
     said: usize,
     out: [u8; 2180],

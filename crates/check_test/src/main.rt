@@ -1,5 +1,7 @@
 // Tries check: row j of document 01, some refusals, and every vector of partner bytes for random sheets of up to 6 joints,
 // beside a reference written straight from the definition; and the number of every pair of 128 joints, counted one after another.
+#![tactic(auto)]
+
 ghost use Rattle.std.specs.Prelude.{◌<◌, ◌≤◌};
 
 use base::wide;

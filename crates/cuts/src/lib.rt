@@ -1,5 +1,7 @@
 // Phase two, over the square of bands: each function is an equation with a definition of the crate roommates. For the crates
 // above, which prove what they require.
+#![tactic(auto)]
+
 ghost use Rattle.std.specs.Prelude.{◌≡◌, ◌&&◌, ◌||◌, ◌≤◌, ◌<◌, eqb, leb, ltb};
 ghost use Rattle.roommates.specs.Lists.{list_length};
 ghost use Rattle.roommates.specs.PhaseTwo.{trial, aside_of, none_emptied, cut_at, longer};

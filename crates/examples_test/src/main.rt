@@ -1,5 +1,7 @@
 // Holds what mirror prints for each example sheet to the text that stands beside it, what quote answers for one to its price, what follow
 // answers for the example pairings to what is reasoned, and what import writes for each hierarchy to the sheet beside it.
+#![tactic(auto)]
+
 ghost use Rattle.io.specs.Counts.{IsPrefixLen};
 
 use bvh::{Imported, import};

@@ -1,4 +1,6 @@
 // What stands between a block's name and its children, and behind the word End. For the crates above, which prove what they require.
+#![tactic(auto)]
+
 ghost use Rattle.std.specs.Prelude.{◌≡◌, ◌≤◌, length};
 ghost use Rattle.words.specs.Words.{words_at, word_at};
 ghost use Rattle.words.specs.Met.{IsWord, Reaches};
@@ -7,7 +9,7 @@ ghost use Rattle.headings.specs.Headings.{opening, heading, site, child_of};
 use words::{Reached, Word, any_words, counted_words, is_word, keyword_at};
 
 // What a word in a block begins: the block's end, an End Site, a JOINT, or nothing that may stand there.
-#[derive(Drop)]
+#[derive(Clone, Copy)]
 pub enum Child {
     Close,
     End,

@@ -1,4 +1,6 @@
 // Reads the hierarchy that a text begins with. For the crates above, which prove what they require.
+#![tactic(auto)]
+
 mod blocks;
 
 ghost use Rattle.std.specs.Prelude.{◌≡◌, ◌≤◌, length};
@@ -15,14 +17,14 @@ const ROOT: u8 = 255;
 const DEEPER: usize = 31;
 
 // Where reading is: a place of the text, and how many joints were met before it. Their names' places and their parents are kept beside it.
-#[derive(Drop)]
+#[derive(Clone, Copy)]
 pub struct Spot {
     pub at: usize,
     pub joints: usize,
 }
 
 // What a reader answers: where it has come to, or the number of the refusal.
-#[derive(Drop)]
+#[derive(Clone, Copy)]
 pub enum Progress {
     Read(Spot),
     Refused(u8),

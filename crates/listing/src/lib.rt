@@ -1,4 +1,6 @@
 // Writes the text that the program `mirror` prints.
+#![tactic(auto)]
+
 mod lines;
 
 ghost use Rattle.std.specs.Prelude.{◌≡◌, ◌≤◌, length};

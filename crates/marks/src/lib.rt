@@ -1,18 +1,20 @@
 // Marks in code: a working saved in a mark, and restored from it. For the crates above, which prove what they require.
+#![tactic(auto)]
+
 ghost use Rattle.std.specs.Prelude.{◌≡◌, ◌<◌, set};
 ghost use Rattle.marks.specs.Saved.{with_saved, with_place};
 
 use stages::Place;
 
 // Whether a mark is set, and where the working stood when it was, beside its lists.
-#[derive(Drop)]
+#[derive(Clone, Copy)]
 pub struct MarkPlace {
     pub set: bool,
     pub place: Place,
 }
 
 // Where a working stands, and its marks.
-#[derive(Drop)]
+#[derive(Clone, Copy)]
 pub struct MarkedPlace {
     pub place: Place,
     pub marks: [MarkPlace; 8],

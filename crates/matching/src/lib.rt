@@ -1,4 +1,6 @@
 // Partner bytes over a sheet's joints and square: whether they are a matching, and what they count.
+#![tactic(auto)]
+
 ghost use Rattle.std.specs.Prelude.{◌≡◌, ◌≤◌, ◌<◌, length};
 ghost use Rattle.matching.specs.Matchings.{partner, paired_joints, pair_count, is_paired, is_placed, is_matching, pair_number};
 

@@ -3,6 +3,8 @@
 // Bytes past 65,536 are not read; no accepted sheet has so many. A read that fails ends the input, and the bytes before it are the
 // sheet (none, where standard input is closed): a sheet cut short is refused, so a failure never gives another pairing. A write that
 // fails ends the program.
+#![tactic(auto)]
+
 fn main() {
     let mut sheet = io::large_buffer();
     let size = io::read_full(0, &mut sheet);

@@ -1,4 +1,6 @@
 // One move of a working: a choice in whatever stage. For the crates above, which prove what they require.
+#![tactic(auto)]
+
 ghost use Rattle.std.specs.Prelude.{◌≡◌, Bool, ◌≤◌};
 ghost use Rattle.roommates.specs.declared.Stage.TheVariants.{Proposing, Cutting};
 ghost use Rattle.moves.specs.Moved.{Moved, Roomy};

@@ -1,4 +1,6 @@
 // The names of a hierarchy, kept by the places of the text at which they begin. For the crates above, which prove what they require.
+#![tactic(auto)]
+
 ghost use Rattle.std.specs.Prelude.{◌≡◌, ◌≤◌, ◌<◌, length};
 ghost use Rattle.words.specs.Words.{word_at};
 ghost use Rattle.words.specs.Met.{IsWord};

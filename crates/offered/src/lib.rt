@@ -1,4 +1,6 @@
 // The call check: an offered pairing judged against a sheet.
+#![tactic(auto)]
+
 ghost use Rattle.std.specs.Prelude.{◌≡◌};
 ghost use Rattle.offered.specs.Checks.{check_of};
 

@@ -1,5 +1,7 @@
 // Where each row of pair numbers starts: row b has the pairs of b with a lower joint, and comes after the rows of the joints below b.
 // For the crates above, which prove what the function requires.
+#![tactic(auto)]
+
 ghost use Rattle.std.specs.Prelude.{◌≡◌, ◌-◌, ◌*◌, ◌/◌, ◌<◌};
 
 // In 16 bits: a constant array is laid on the stack where it is read.

@@ -1,4 +1,6 @@
 // The calls as C has them (include/mirror.h), a module for each: a slice is a pointer and a size, an answer one number.
+#![tactic(auto)]
+
 pub mod checking;
 pub mod counting;
 pub mod following;

@@ -1,4 +1,6 @@
 // The parents of joints: the section of a sheet that has them, and the depth of a joint. For the crates above, which prove what they require.
+#![tactic(auto)]
+
 mod depths;
 mod parent_section;
 

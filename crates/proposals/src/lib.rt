@@ -1,5 +1,7 @@
 // Phase one, over the square of bands: each function is an equation with a definition of the crate roommates. For the crates
 // above, which prove what they require.
+#![tactic(auto)]
+
 ghost use Rattle.std.specs.Prelude.{◌≡◌, ◌&&◌, List, ℕ, ◌+◌, ◌≤◌, ◌<◌, ◌^◌, eqb, ltb, get_or};
 ghost use Rattle.roommates.specs.Lists.{list_length, row};
 ghost use Rattle.roommates.specs.declared.Stage.{Stage};

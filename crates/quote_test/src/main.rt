@@ -1,5 +1,7 @@
 // Tries quote beside prices worked out in another form: on sheets of 0 to 64 pairs, and on random sheets of up to 8 joints, with choices,
 // tariffs, rebates and sheets that are whole or damaged, beside the rules.
+#![tactic(auto)]
+
 mod pairs;
 mod prices;
 mod tariffs;

@@ -5,7 +5,7 @@ use base::wide;
 use samples::next;
 
 // Where the generator stands, and the steps that it has drawn, after a byte for their count. Beginnings are 1 to `spread` % 12 + 1 pairs apart.
-#[derive(Drop)]
+#[derive(Clone, Copy)]
 struct Drawn {
     at: u32,
     spread: u32,
@@ -13,7 +13,7 @@ struct Drawn {
 }
 
 // Bytes for a tariff, and how many of them are lent.
-#[derive(Drop)]
+#[derive(Clone, Copy)]
 pub struct Tariff {
     pub bytes: [u8; 88],
     pub size: usize,

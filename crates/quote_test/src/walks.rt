@@ -4,14 +4,14 @@ use rules::{Work, allowed, answered, any_of, chosen, ended, fresh};
 use samples::next;
 
 // Choices, and what becomes of the working: the number of a refusal, 101 or 102 for none with its phase, 200 and the count of pairs.
-#[derive(Drop)]
+#[derive(Clone, Copy)]
 pub struct Walk {
     pub list: Choices,
     pub number: u32,
 }
 
 // Steps, the working after them, and where the generator stands.
-#[derive(Drop)]
+#[derive(Clone, Copy)]
 struct Path {
     at: u32,
     list: Choices,

@@ -1,5 +1,7 @@
 // What a pairing of up to 8 joints is worth, straight from the definition, and every matching, for the test programs. A pairing is 8
 // partner bytes, 255 for unpaired. Bands stand row by row, 8 to a joint, 0 for unlisted.
+#![tactic(auto)]
+
 ghost use Rattle.std.specs.Prelude.{◌<◌, ◌≤◌};
 
 use base::wide;

@@ -1,10 +1,12 @@
 // Records for the test programs: the steps standing are worked out from the records alone and replayed by the rules.
+#![tactic(auto)]
+
 ghost use Rattle.std.specs.Prelude.{◌<◌, ◌≤◌};
 
 use rules::{Work, chosen};
 
 // Bytes of choices, and how many there are.
-#[derive(Drop)]
+#[derive(Clone, Copy)]
 pub struct Choices {
     pub bytes: [u8; 64],
     pub len: usize,

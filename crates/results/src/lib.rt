@@ -1,4 +1,6 @@
 // What a working leaves, written: partners, and the lists that are left. For the crates above, which prove what they require.
+#![tactic(auto)]
+
 ghost use Rattle.std.specs.Prelude.{◌≡◌, ◌++◌, ◌+◌, ◌*◌, ◌≤◌, ◌<◌, length, drop};
 ghost use Rattle.base.specs.Below.{lowest};
 ghost use Rattle.writing.specs.Written.{Wrote};

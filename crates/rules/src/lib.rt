@@ -1,4 +1,6 @@
 // The two phases for up to 8 joints, sentence by sentence from documents 01 and 02, for the test programs.
+#![tactic(auto)]
+
 mod flags;
 mod phases;
 
@@ -24,7 +26,7 @@ pub const LISTS: u32 = 1000;
 pub const FILL: u8 = 170;
 
 // A working: settle's if `whole`, else shorten's.
-#[derive(Drop)]
+#[derive(Clone, Copy)]
 pub struct Work {
     pub whole: bool,
     // The count of joints and the sheet's bands: row by row, 8 to a joint, 0 for unlisted.
@@ -43,7 +45,7 @@ pub struct Work {
 
 // What a call answers, as one number: that of a refusal; 101 or 102 for none with its phase; 200 and the count of pairs; 1000 and the
 // count of entries. The buffer after it; and its working's counts, beside the number of a refused choice, or 0.
-#[derive(Drop)]
+#[derive(Clone, Copy)]
 pub struct Answer {
     pub number: u32,
     pub out: [u8; 256],

@@ -1,5 +1,7 @@
 // The joint that the rule names where nobody chooses: in phase one the lowest that waits, in phase two the one with the longest list. For the
 // crates above, which prove what they require.
+#![tactic(auto)]
+
 ghost use Rattle.std.specs.Prelude.{◌≡◌, ◌≤◌, get_or};
 ghost use Rattle.base.specs.Below.{lowest};
 ghost use Rattle.roommates.specs.Lists.{row};

@@ -1,9 +1,11 @@
 // Sheets for the test programs: of up to 8 joints from a fixed generator, and long ones without entries. Bands stand row by row, 8 to a joint, 0 for unlisted.
+#![tactic(auto)]
+
 ghost use Rattle.std.specs.Prelude.{◌<◌, ◌≤◌};
 
 // Of four pairs about `skip` are not listed; of eight others about `lone` are listed by one side alone. Bands differ by up to `width`,
 // below 64, and are worse by `turn`, one of 0, 2, 4 and 8, for each joint between, round the ring of joints.
-#[derive(Drop)]
+#[derive(Clone, Copy)]
 pub struct Style {
     pub skip: u32,
     pub lone: u32,
@@ -12,14 +14,14 @@ pub struct Style {
 }
 
 // Where the generator stands, and the bands that it has drawn.
-#[derive(Drop)]
+#[derive(Clone, Copy)]
 struct Drawn {
     at: u32,
     bands: [u8; 64],
 }
 
 // A sheet: its count of joints, its bands, its bytes, with zeros after them, and how many they are.
-#[derive(Drop)]
+#[derive(Clone, Copy)]
 pub struct Sheet {
     pub n: usize,
     pub bands: [u8; 64],

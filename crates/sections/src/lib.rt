@@ -1,4 +1,6 @@
 // The sections of a sheet, each read as the part of the sheet that begins after its count.
+#![tactic(auto)]
+
 mod entry_section;
 mod label_section;
 
@@ -14,14 +16,14 @@ pub const LABEL_WIDTH: usize = 16;
 pub const ENTRY_WIDTH: usize = 3;
 
 // What reading a section answers: its length in bytes, or the number of the refusal.
-#[derive(Drop)]
+#[derive(Clone, Copy)]
 pub enum Section {
     Read(usize),
     Refused(u8),
 }
 
 // An entry of the rankings: a joint, its candidate, the band.
-#[derive(Drop)]
+#[derive(Clone, Copy)]
 pub struct Entry {
     pub joint: usize,
     pub other: usize,

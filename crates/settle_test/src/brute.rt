@@ -3,7 +3,7 @@ use reference::{is_stable, one, paired};
 use std::num::wrapping_add_u32;
 
 // How many there are, and how many of them pair the joints that one pairing pairs.
-#[derive(Drop)]
+#[derive(Clone, Copy)]
 pub struct Found {
     pub stable: u32,
     pub alike: u32,

@@ -1,4 +1,6 @@
 // Tries settle and shorten: rows n and o of document 01, and random sheets of up to 8 joints beside the rules and every matching.
+#![tactic(auto)]
+
 mod answers;
 mod brute;
 mod places;
@@ -14,7 +16,7 @@ use tally::{add, compare};
 const ROUNDS: u32 = 3072;
 
 // A sheet: its number, where the generator starts, and how many super-stable matchings there are.
-#[derive(Drop)]
+#[derive(Clone, Copy)]
 pub struct Case {
     pub round: u32,
     pub seed: u32,

@@ -9,14 +9,14 @@ use samples::{Sheet, next};
 use tally::{add, compare};
 
 // A record, as the calls take it.
-#[derive(Drop)]
+#[derive(Clone, Copy)]
 struct Drawn {
     kind: u8,
     number: u8,
 }
 
 // A list of records, and the two workings after it.
-#[derive(Drop)]
+#[derive(Clone, Copy)]
 struct Walk {
     list: Choices,
     settle: Work,

@@ -1,4 +1,6 @@
 // Reads whole sheets: bytes from outside, in the format of documents 01 and 02.
+#![tactic(auto)]
+
 ghost use Rattle.std.specs.Prelude.{◌≡◌, ◌+◌, ◌*◌, ◌<◌, length, get_or};
 ghost use Rattle.sheet.specs.Refusals.{extents_fault};
 ghost use Rattle.sheet.specs.Readings.{reading_or, reading_of, square_in};
@@ -12,7 +14,7 @@ const LABELS: usize = 1;
 
 // The parts of a sheet: how many joints and entries; where the labels and the entries begin, and where the third section does, with its count:
 // at the sheet's end, if it is left out.
-#[derive(Drop)]
+#[derive(Clone, Copy)]
 pub struct Parts {
     pub joints: usize,
     pub entries: usize,
@@ -22,7 +24,7 @@ pub struct Parts {
 }
 
 // What reading a whole sheet answers: its parts, or the number of the refusal.
-#[derive(Drop)]
+#[derive(Clone, Copy)]
 pub enum Reading {
     Accepted(Parts),
     Refused(u8),

@@ -4,6 +4,8 @@
 //
 // with a refusal's number, or `ok`, the parts and how many places have a band, for expected (see `build` for words, `compare` for
 // checks). A case that differs is written with the number that was read, 0 for an accepted sheet.
+#![tactic(auto)]
+
 mod build;
 mod compare;
 mod words;

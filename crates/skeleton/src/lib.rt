@@ -1,4 +1,6 @@
 // The call follow: which pairs of an offered pairing follow the skeleton, by the parents of its joints.
+#![tactic(auto)]
+
 ghost use Rattle.std.specs.Prelude.{◌≡◌, ◌≤◌, ◌<◌, length};
 ghost use Rattle.parents.specs.Claims.{Lower, IsSection};
 ghost use Rattle.skeleton.specs.Following.{follows, is_stray, stray_count, lowest_stray};
@@ -9,14 +11,14 @@ use parents::{ROOT, parent};
 use sheet::Reading;
 
 // The pairs that do not follow: how many they are, and the lowest of their numbers.
-#[derive(Drop)]
+#[derive(Clone, Copy)]
 pub struct Strays {
     pub pairs: u32,
     pub lowest: u32,
 }
 
 // What follow answers: a refusal by its number, that all pairs follow, or those that do not.
-#[derive(Drop)]
+#[derive(Clone, Copy)]
 pub enum Followed {
     Refused(u8),
     All,

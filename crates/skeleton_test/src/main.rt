@@ -1,5 +1,7 @@
 // Tries follow beside a reference of its own: every skeleton of up to 6 joints with every matching, and random sheets of up to 8 joints whose
 // third section and pairing are whole or damaged.
+#![tactic(auto)]
+
 mod drawn;
 mod every;
 mod plain;
@@ -25,7 +27,7 @@ pub const DRAWN: usize = 8;
 const REFUSED: usize = 13;
 
 // A third section: its parents, its count, and how many of its bytes are lent.
-#[derive(Drop)]
+#[derive(Clone, Copy)]
 pub struct Third {
     pub parents: [u8; 8],
     pub count: usize,
@@ -33,7 +35,7 @@ pub struct Third {
 }
 
 // A sheet with its third section, the parents in it, where its calls are counted, and its number there.
-#[derive(Drop)]
+#[derive(Clone, Copy)]
 pub struct Case {
     place: usize,
     number: u32,

@@ -9,7 +9,7 @@ use std::num::wrapping_add_u32;
 pub const NONE: u8 = 255;
 
 // An answer: a refusal's number or one of two words, how many pairs do not follow, and the lowest of their numbers.
-#[derive(Drop)]
+#[derive(Clone, Copy)]
 pub struct Answer {
     pub word: u32,
     pub pairs: u32,

@@ -1,4 +1,6 @@
 // The square of bands, filled from entries: a place has a band only where two joints list each other.
+#![tactic(auto)]
+
 ghost use Rattle.std.specs.Prelude.{◌≡◌, cond, ℕ, ◌<◌, ltb};
 ghost use Rattle.sections.specs.Entries.{entries_from};
 ghost use Rattle.square.specs.Inside.{Inside};

@@ -1,5 +1,7 @@
 // Where a working stands, in code: its stage after a step or a cut, and the joint that the rule names. For the crates above, which prove
 // what they require.
+#![tactic(auto)]
+
 ghost use Rattle.std.specs.Prelude.{◌≡◌, ◌≤◌};
 ghost use Rattle.roommates.specs.declared.Stage.TheVariants.{Proposing};
 ghost use Rattle.roommates.specs.Lists.{Square};
@@ -14,7 +16,7 @@ use roommates::Stage;
 use ruling::{longest_list, lowest_waiting};
 
 // Where a working stands, beside its lists. refusal: of the last choice, 0 for none; next: the joint that the rule names.
-#[derive(Drop)]
+#[derive(Clone, Copy)]
 pub struct Place {
     pub refusal: u8,
     pub stage: Stage,

@@ -1,4 +1,6 @@
 // Whole workings: the records of the choices, then the rule's moves to the end. For the crates above, which prove what they require.
+#![tactic(auto)]
+
 ghost use Rattle.std.specs.Prelude.{◌≡◌};
 ghost use Rattle.sheet.specs.Square.{SquarePromise};
 ghost use Rattle.roommates.specs.Moves.{outcome, concluded, turns};

@@ -1,4 +1,6 @@
 // The counts of a test program, each at a place of one array, and the text that they are printed in.
+#![tactic(auto)]
+
 use libc::STDOUT_FILENO;
 
 // Comparisons that agreed, and those that did not.

@@ -1,4 +1,6 @@
 // The words of a text, met one after the other from a place on. For the crates above, which prove what they require.
+#![tactic(auto)]
+
 mod counts;
 
 ghost use Rattle.std.specs.Prelude.{◌≡◌, false, ◌+◌, ◌-◌, ◌≤◌, ◌<◌, length, get_or, take, drop};
@@ -9,21 +11,21 @@ ghost use Rattle.words.specs.Met.{keyword, any_words, NextWord, Reaches};
 pub use counts::counted_words;
 
 // A word of a text: where it begins, and where it ends. Where these are one, no word is left.
-#[derive(Drop)]
+#[derive(Clone, Copy)]
 pub struct Word {
     pub start: usize,
     pub end: usize,
 }
 
 // What meeting words answers: the place behind them, or that they are not there.
-#[derive(Drop)]
+#[derive(Clone, Copy)]
 pub enum Reached {
     At(usize),
     Broken,
 }
 
 // What a word of digits counts, or that it is none or counts too many.
-#[derive(Drop)]
+#[derive(Clone, Copy)]
 enum Count {
     Of(usize),
     Unfit,

@@ -1,4 +1,6 @@
 // Bytes, words and numbers written into a buffer at a place. Each function returns the place behind what it wrote.
+#![tactic(auto)]
+
 ghost use Rattle.std.specs.Prelude.{[], ◌∷◌, ◌+◌, ◌<◌, ◌≤◌, length};
 ghost use Rattle.writing.specs.Written.{Wrote};
 ghost use Rattle.writing.specs.Decimal.{digit, decimal, number_line};
