@@ -1,0 +1,17 @@
+-- All entries, joint by joint.
+use mathlib.Core.List.{List}
+use Prim.Native.Nat.{ℕ, ◌-◌, ◌≤◌}
+use Rattle.base.specs.Below.{joined}
+use Rattle.writing.specs.Written.{Wrote}
+use Rattle.roommates.specs.Lists.{Square, row}
+use Rattle.roommates.specs.Left.{row_entries}
+use Rattle.results.proofs.write_rows.Given as goal
+
+abbrev pub rows : ℕ → Square → ℕ → List ℕ
+rows n t a = row_entries n a (row t a)
+
+abbrev pub invariant-loop-a : goal.invariant-loop-a
+invariant-loop-a l = (l.a ≤ l.n) × Wrote l.initial.out l.at (joined l.a (rows l.n l.bands)) l.out l.next
+
+abbrev pub decreases-loop-a : goal.decreases-loop-a
+decreases-loop-a l = l.n - l.a
