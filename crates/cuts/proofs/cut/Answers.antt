@@ -13,19 +13,19 @@ trial-first-requires c = let some : 0 < c.args.n = omega arith in
 
 pub returns-then-none_emptied : goal.returns-then-none_emptied
 returns-then-none_emptied c =
-    is_kept_lem _ (cut_first _ _ _ _ c.first_on.ensures c.trial-first.ensures (sym c.none_emptied.ensures ∙ c.if-none_emptied.true))
-
+    let says = is_kept_lem c.args.lists.now (cut_first _ _ _ _ c.first_on.ensures c.trial-first.ensures (sym c.none_emptied.ensures ∙ c.if-none_emptied.true)) in
+    record { value = says.0; lists_after = says.1 }
 
 pub returns-then-none_emptied-2 : goal.returns-then-none_emptied-2
 returns-then-none_emptied-2 c =
     let no = sym c.none_emptied.ensures ∙ c.if-none_emptied.false in
     let yes = sym c.none_emptied-2.ensures ∙ c.if-none_emptied-2.true in
-    is_kept_lem _ (cut_second _ _ _ _ c.first_on.ensures c.trial-first.ensures no c.trial-second.ensures yes)
-
+    let says = is_kept_lem c.args.lists.now (cut_second _ _ _ _ c.first_on.ensures c.trial-first.ensures no c.trial-second.ensures yes) in
+    record { value = says.0; lists_after = says.1 }
 
 pub returns : goal.returns
 returns c =
     let no = sym c.none_emptied.ensures ∙ c.if-none_emptied.false in
     let neither = sym c.none_emptied-2.ensures ∙ c.if-none_emptied-2.false in
-    is_neither _ (cut_neither _ _ _ _ c.first_on.ensures c.trial-first.ensures no c.trial-second.ensures neither)
-
+    let says = is_neither c.args.lists.now (cut_neither _ _ _ _ c.first_on.ensures c.trial-first.ensures no c.trial-second.ensures neither) in
+    record { value = says.0; lists_after = says.1 }
