@@ -1,0 +1,25 @@
+use mathlib.Core.Path.{◌≡◌, sym, ◌∙◌}
+use Prim.Native.Nat.{◌-◌}
+use native.Mathlib.Omega.{arith}
+use lib.ListN.{length}
+use Rattle.base.proofs.CountBelow.{count_zero, count_hit, count_miss}
+use Rattle.skeleton.specs.Following.{is_stray}
+use Rattle.skeleton.proofs.count_strays.Goals as goal
+use Rattle.skeleton.proofs.count_strays.Goals.{else-is_stray, then-is_stray}
+
+pub loop-b-init : goal.loop-b-init
+loop-b-init c = (omega arith, (omega arith, sym (count_zero _)))
+
+pub is_stray-requires : goal.is_stray-requires
+is_stray-requires c = let pre = c.requires in  record { lower = pre; b_in_bounds = omega (arith, pre.1, c.loop-b-test.true) }
+
+pub loop-b-preserved : goal.loop-b-preserved
+loop-b-preserved c =
+    let here = sym c.is_stray.ensures in
+    let so_far = c.loop-b.invariant.1.1 in
+    (elim c.if-is_stray.branch [ then-is_stray w ↦ (omega arith, (omega arith, w.pairs-is ∙ count_hit _ _ so_far (here ∙ w.if-is_stray.true))) | else-is_stray w ↦ (omega arith, (omega arith, w.pairs-is ∙ count_miss _ _ so_far (here ∙ w.if-is_stray.false))) ])
+
+pub returns : goal.returns
+returns c =
+    let end : c.loop-b.b ≡ length c.args.pairing.now = omega arith in
+    rw end at c.loop-b.invariant.1.1
