@@ -1,7 +1,7 @@
 // The counts of a test program, each at a place of one array, and the text that they are printed in.
 #![tactic(auto)]
 
-use libc::STDOUT_FILENO;
+const STDOUT: i32 = 1;
 
 // Comparisons that agreed, and those that did not.
 pub const AGREE: usize = 0;
@@ -21,7 +21,7 @@ fn long(count: u32) -> u64 {
 }
 
 fn print_byte(byte: u8) {
-    io::write_all(STDOUT_FILENO, &[byte]);
+    io::write_all(STDOUT, &[byte]);
 }
 
 // Prints a byte of a text, or the count at place k for a '#'. Returns the place of the next count.
@@ -33,7 +33,7 @@ fn print_piece(byte: u8, counts: &[u32; 40], k: usize) -> usize {
     if 40 <= k {
         return k;
     }
-    io::print_decimal(STDOUT_FILENO, long(counts[k]));
+    io::print_decimal(STDOUT, long(counts[k]));
     k + 1
 }
 
