@@ -99,7 +99,7 @@ inside_closes w (joint name o c inside after) = simp final_append (inside_closes
 roots_close : (w : List ℕ) (h : Roots) → final w (spelt_roots h) ≡ close_word
 unfolding final spelt_roots
 roots_close w (single name o c inside) = simp final_append (inside_closes _ inside)
-roots_close w (more name o c inside after) = simp final_append (roots_close _ after)
+roots_close w (more name o c inside after) = simp final_append (roots_close (final (final c.count c.each) (spelt_inside inside)) after)
 
 -- the last byte of a word that the cut parts, by which it is neither a closing brace nor MOTION
 cut_last : (part w : List ℕ) → part ++ (cut_mark ∷ []) ≡ w → final 0 w ≡ cut_mark

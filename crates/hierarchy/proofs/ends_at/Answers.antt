@@ -1,14 +1,10 @@
 use native.Mathlib.Omega.{arith}
-use borrow.Author.Rules.{rules}
 use Rattle.hierarchy.specs.Hierarchy.{ends}
 use Rattle.hierarchy.proofs.ends_at.Goals as goal
 
 pub returns-then-word : goal.returns-then-word
 unfolding ends
 returns-then-word c = rw (c.next_word-word.ensures.nothing c.if-word.true)
-
--- LOST GOAL slice-aggregate-is-word
--- slice-aggregate-is-word c = search rules
 
 pub returns : goal.returns
 unfolding ends

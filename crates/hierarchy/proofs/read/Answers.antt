@@ -1,11 +1,7 @@
 use native.Mathlib.Omega.{arith}
-use borrow.Author.Rules.{rules}
 use Rattle.headings.proofs.HeadingLaws.{met_at, met_broken}
 use Rattle.hierarchy.proofs.RootLaws.{none_ready, whole_broken, whole_answered}
 use Rattle.hierarchy.proofs.read.Goals as goal
-
--- LOST GOAL slice-aggregate-keyword-at
--- slice-aggregate-keyword-at c = search rules
 
 pub returns-in_default : goal.returns-in_default
 returns-in_default c = (whole_broken _ (met_broken _ _ _ c.in_default.is c.keyword_at-word.ensures), omega arith)
