@@ -14,10 +14,10 @@ use Rattle.calls.proofs.settling.settle_lists.Goals as goal
 use Rattle.calls.proofs.settling.settle_lists.Goals.{Else-end-ge1}
 
 -- what the call says where no choice was refused and the working ended with the verdict v
-at : (e : Else-end-ge1) (v : Stage) → let w = (goal.at.Else-end-ge1 e).After-working-end in let a = w.before.before.before.before.before.args in
-    w.working.result.stage ≡ v
+at : (e : Else-end-ge1) (v : Stage) → let a = e.args in let left = e.working-end.new.left in
+    e.working-end.result.stage ≡ v
     → SettledSo (settling a.n a.bands a.choices.now a.out.now) a.out.now
-    (ended_as v (pair_count (pairing_of a.n w.working.last.1.1.1.1.0))) (result_over v (pairing_of a.n w.working.last.1.1.1.1.0) a.out.now)
+    (ended_as v (pair_count (pairing_of a.n left))) (result_over v (pairing_of a.n left) a.out.now)
 at e v h = settled_at _ _ _ _ e.working-end.result e.working-end.ensures e.if-out-n.false v (omega (arith, e.if-end-ge1.false)) h
 
 pub returns-then-out-n : goal.returns-then-out-n
@@ -34,31 +34,27 @@ pub write_pairing-requires : goal.write_pairing-requires
 write_pairing-requires c =
     (c.requires.few_joints, c.if-out-n.false)
 
+pub returns-in-NoneOne : goal.returns-in-NoneOne
+returns-in-NoneOne c =
+    let says = at (goal.at.returns-in-NoneOne c).Else-end-ge1 NoneOne c.in-NoneOne.is in
+    record { value = says.0; out_after = says.1 }
+
+pub returns-in-NoneTwo : goal.returns-in-NoneTwo
+returns-in-NoneTwo c =
+    let says = at (goal.at.returns-in-NoneTwo c).Else-end-ge1 NoneTwo c.in-NoneTwo.is in
+    record { value = says.0; out_after = says.1 }
+
 pub returns-in-Paired : goal.returns-in-Paired
 returns-in-Paired c =
     let so = at (goal.at.returns-in-Paired c).Else-end-ge1 Paired c.in-Paired.is in
      record { value = ap (λ (k : ℕ). S.Ended (E.Paired k)) c.write_pairing.ensures.value ∙ so.0; out_after = c.write_pairing.ensures.out_after ∙ so.1 }
 
-pub returns-in-NoneOne : goal.returns-in-NoneOne
-returns-in-NoneOne c = at (goal.at.returns-in-NoneOne c).Else-end-ge1 NoneOne c.in
-    let says = -NoneOne.is in
-    record { value = says.0; out_after = says.1 }
-
-
-pub returns-in-NoneTwo : goal.returns-in-NoneTwo
-returns-in-NoneTwo c = at (goal.at.returns-in-NoneTwo c).Else-end-ge1 NoneTwo c.in
-    let says = -NoneTwo.is in
-    record { value = says.0; out_after = says.1 }
-
-
 pub returns-in-Proposing : goal.returns-in-Proposing
-returns-in-Proposing c = at (goal.at.returns-in-Proposing c).Else-end-ge1 Proposing c.in
-    let says = -Proposing.is in
+returns-in-Proposing c =
+    let says = at (goal.at.returns-in-Proposing c).Else-end-ge1 Proposing c.in-Proposing.is in
     record { value = says.0; out_after = says.1 }
-
 
 pub returns-in-Cutting : goal.returns-in-Cutting
-returns-in-Cutting c = at (goal.at.returns-in-Cutting c).Else-end-ge1 Cutting c.in
-    let says = -Cutting.is in
+returns-in-Cutting c =
+    let says = at (goal.at.returns-in-Cutting c).Else-end-ge1 Cutting c.in-Cutting.is in
     record { value = says.0; out_after = says.1 }
-

@@ -23,6 +23,5 @@ pub returns-in-Accepted : goal.returns-in-Accepted
 returns-in-Accepted c =
     let a = c.args in
     let known = lists_as _ c.lists-found.ensures.value _ c.lists-found.ensures.bands_after c.in-Accepted.is in
-    let says = shorten_read a.sheet.now _ _ known a.choices.now a.out.now c.shorten_lists.ensures in
+    let says = shorten_read a.sheet.now _ _ known a.choices.now a.out.now (c.shorten_lists.ensures.value, c.shorten_lists.ensures.out_after) in
     record { value = says.0; out_after = says.1 }
-

@@ -24,10 +24,10 @@ fits w =
     omega (arith, few, p.1.0)
 
 -- what the call says where no choice was refused and the working ended with the verdict v
-at : (e : Else-end-ge1) (v : Stage) → let w = (goal.at.Else-end-ge1 e).After-working-end in let a = w.before.before.before.before.before.args in
-    w.working.result.stage ≡ v
+at : (e : Else-end-ge1) (v : Stage) → let a = e.args in let left = e.working-end.new.left in
+    e.working-end.result.stage ≡ v
     → ShortenedSo (shortening a.n a.m a.bands a.choices.now a.out.now) a.out.now
-    (listed_as v (entry_count a.n w.working.last.1.1.1.1.0)) (result_over v (list_bytes a.n w.working.last.1.1.1.1.0) a.out.now)
+    (listed_as v (entry_count a.n left)) (result_over v (list_bytes a.n left) a.out.now)
 at e v h = shortened_at _ _ _ _ _ e.working-end.result e.working-end.ensures e.if-out-m.false v (omega (arith, e.if-end-ge1.false)) h
 
 pub returns-then-out-m : goal.returns-then-out-m
@@ -48,35 +48,31 @@ pub overflow_cast-result : goal.overflow_cast-result
 overflow_cast-result c =
     omega (arith, c.write_lists.ensures.value, fits (goal.at.overflow_cast-result c).After-working-end, c.requires.1.1)
 
+pub returns-in-NoneOne : goal.returns-in-NoneOne
+returns-in-NoneOne c =
+    let says = at (goal.at.returns-in-NoneOne c).Else-end-ge1 NoneOne c.in-NoneOne.is in
+    record { value = says.0; out_after = says.1 }
+
+pub returns-in-NoneTwo : goal.returns-in-NoneTwo
+returns-in-NoneTwo c =
+    let says = at (goal.at.returns-in-NoneTwo c).Else-end-ge1 NoneTwo c.in-NoneTwo.is in
+    record { value = says.0; out_after = says.1 }
+
 pub returns-in-Paired : goal.returns-in-Paired
 returns-in-Paired c =
     let so = at (goal.at.returns-in-Paired c).Else-end-ge1 Paired c.in-Paired.is in
     let a = c.args in
-    let bytes = list_bytes a.n c.working-end.last.1.1.1.1.0 in
+    let bytes = list_bytes a.n c.working-end.new.left in
     let count = c.write_lists.ensures.value in
-    let long : 2 + 3 * c.write_lists.result ≡ length bytes = omega (arith, count, bytes_length a.n c.working-end.last.1.1.1.1.0) in
+    let long : 2 + 3 * c.write_lists.result ≡ length bytes = omega (arith, count, bytes_length a.n c.working-end.new.left) in
      record { value = ap (λ (k : ℕ). L.Lists k) count ∙ so.0; out_after = c.write_lists.ensures.out_after ∙ (ap (λ (l : ℕ). bytes ++ drop l a.out.now) long ∙ so.1) }
 
-pub returns-in-NoneOne : goal.returns-in-NoneOne
-returns-in-NoneOne c = at (goal.at.returns-in-NoneOne c).Else-end-ge1 NoneOne c.in
-    let says = -NoneOne.is in
-    record { value = says.0; out_after = says.1 }
-
-
-pub returns-in-NoneTwo : goal.returns-in-NoneTwo
-returns-in-NoneTwo c = at (goal.at.returns-in-NoneTwo c).Else-end-ge1 NoneTwo c.in
-    let says = -NoneTwo.is in
-    record { value = says.0; out_after = says.1 }
-
-
 pub returns-in-Proposing : goal.returns-in-Proposing
-returns-in-Proposing c = at (goal.at.returns-in-Proposing c).Else-end-ge1 Proposing c.in
-    let says = -Proposing.is in
+returns-in-Proposing c =
+    let says = at (goal.at.returns-in-Proposing c).Else-end-ge1 Proposing c.in-Proposing.is in
     record { value = says.0; out_after = says.1 }
-
 
 pub returns-in-Cutting : goal.returns-in-Cutting
-returns-in-Cutting c = at (goal.at.returns-in-Cutting c).Else-end-ge1 Cutting c.in
-    let says = -Cutting.is in
+returns-in-Cutting c =
+    let says = at (goal.at.returns-in-Cutting c).Else-end-ge1 Cutting c.in-Cutting.is in
     record { value = says.0; out_after = says.1 }
-
