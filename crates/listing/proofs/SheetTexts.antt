@@ -105,7 +105,7 @@ pub listed_sheet : (s : List ℕ) (parts : Parts) (t : Square) → ListsAs s par
 listed_sheet s parts t known =
     let read = known.read in
     let a = accepted s read.faultless in
-    rw (known.square, read.labels_start, read.n_joints, read.entries_start) record {
+    rw (known.square, read.labels_start_lem, read.n_joints, read.entries_start) record {
       labelled = record { few = a.few_joints; fit = omega arith; inside = omega (arith, a.reaches) };
       text = text_accepted s read.faultless;
     }
