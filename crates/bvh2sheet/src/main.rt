@@ -12,7 +12,13 @@ ghost use Rattle.bvh2sheet.specs.Said.{refused_line};
 
 use bvh::Imported;
 use io::{read_full, write_all};
-use libc::{STDERR_FILENO, STDIN_FILENO, STDOUT_FILENO};
+use std::io::Read;
+
+const STDIN: i32 = 0;
+
+const STDOUT: i32 = 1;
+
+const STDERR: i32 = 2;
 
 // Puts a mark behind the bytes that were read, unless the input ended there. Returns how many bytes the text has then.
 fn close(text: &mut [u8], size: usize, ended: bool) -> usize
@@ -27,16 +33,23 @@ fn close(text: &mut [u8], size: usize, ended: bool) -> usize
     size + 1
 }
 
-// Reads standard input, up to a byte less than there is room for: the last is for the mark.
-fn read_text(text: &mut [u8]) -> usize
+// Does the input end here? A read that fails does not tell so.
+fn has_ended(input: &mut impl Read) -> bool {
+    let mut next = [0u8; 1];
+    match input.read(&mut next) {
+        Ok(count) => count == 0,
+        Err(_) => false,
+    }
+}
+
+// Reads standard input, up to a byte less than there is room for: the last is for the mark. `input` is what follows there.
+fn read_text(input: &mut impl Read, text: &mut [u8]) -> usize
     requires { 1 ≤ length text.old }
     ensures { IsPrefixLen result text.new }
 {
     let room = text.len() - 1;
-    let size = read_full(STDIN_FILENO, &mut text[..room]);
-    let mut next = [0u8; 1];
-    let ended = libc::read(STDIN_FILENO, &mut next) == 0;
-    close(text, size, ended)
+    let size = read_full(STDIN, &mut text[..room]);
+    close(text, size, has_ended(input))
 }
 
 fn number(answer: Imported) -> u8 {
@@ -58,7 +71,7 @@ fn write_refused(number: u8, line: &mut [u8]) -> usize
 fn say_refused(number: u8) {
     let mut line = [0u8; 12];
     let end = write_refused(number, &mut line);
-    write_all(STDERR_FILENO, &line[..end]);
+    write_all(STDERR, &line[..end]);
 }
 
 fn answer(text: &[u8]) {
@@ -68,11 +81,12 @@ fn answer(text: &[u8]) {
         say_refused(number(found));
         return;
     };
-    write_all(STDOUT_FILENO, &sheet[..length]);
+    write_all(STDOUT, &sheet[..length]);
 }
 
-fn main() {
+fn main(rt: HostRuntime) {
     let mut text = [0u8; 131073];
-    let size = read_text(&mut text);
+    let mut input = rt.stdin();
+    let size = read_text(&mut input, &mut text);
     answer(&text[..size]);
 }

@@ -10,8 +10,7 @@ use Rattle.writing.proofs.Writings.{wrote_length, front_wrote}
 use Rattle.writing.proofs.Decimals.{number_line_short}
 use Rattle.bvh2sheet.specs.Said.{refused_word, refused_line}
 use borrow.Author.Rules.{rules}
-use Rattle.bvh2sheet.proofs.write_refused.Statement.{statement}
-use Rattle.bvh2sheet.proofs.write_refused.Tie as tie
+use Rattle.bvh2sheet.proofs.write_refused.Goals as goal
 
 -- the line begins its buffer
 said : {l l₁ : List ℕ} {r : ℕ} (k : ℕ) → 12 ≤ length l → Wrote l 0 (refused_line k) l₁ r → IsPrefixLen r l₁ × (take r l₁ ≡ refused_line k)
@@ -24,31 +23,11 @@ said {l} {l₁} {r} k room wrote =
       rw (end, left) (take-append_seam (refused_line k) (drop (length (refused_line k)) l)),
     )
 
-slice-aggregate-write-number-line : tie.Need-slice-aggregate-write-number-line
-slice-aggregate-write-number-line c = search rules
+-- LOST GOAL slice-aggregate-write-number-line
+-- slice-aggregate-write-number-line c = search rules
 
-wide-requires : tie.Need-wide-requires
-wide-requires c κs = search rules
-
-write-number-line-requires : tie.Need-write-number-line-requires
-write-number-line-requires c κs = search rules
-
-same_length : tie.Need-same-length
-same_length c = search rules
-
-returns : tie.Need-returns
+pub returns : goal.returns
 returns c =
-    let call = c.before.before in
-    let byte = call.before.before.wide in
-    let begin = call.before.before.before.before.before in
-    said begin.args.number begin.requires (rw byte.ensures.0 at call.write-number-line.ensures)
-
-pub write-refused-spec : {M : Type 1} → statement M
-write-refused-spec =
-    tie.close
-    (tie.spec
-    slice-aggregate-write-number-line
-    wide-requires
-    write-number-line-requires
-    same_length
-    returns)
+    let byte = c.wide in
+    let says = said c.args.number c.requires (rw byte.ensures.value at c.write_number_line.ensures) in
+    record { prefix_len = says.0; line_after = says.1 }

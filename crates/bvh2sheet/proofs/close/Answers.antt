@@ -8,9 +8,7 @@ use lib.ListN.{length, take, set, length-set}
 use lib.Seq.{take-suc-set, length-take-le}
 use Rattle.io.specs.Counts.{IsPrefixLen}
 use Rattle.bvh2sheet.specs.Cut.{closed}
-use borrow.Author.Rules.{rules}
-use Rattle.bvh2sheet.proofs.close.Statement.{statement}
-use Rattle.bvh2sheet.proofs.close.Tie as tie
+use Rattle.bvh2sheet.proofs.close.Goals as goal
 
 counts : (n : ℕ) (l : List ℕ) → n ≤ length l → IsPrefixLen n l
 counts n l h = (h, sym (length-take-le n l h))
@@ -23,22 +21,10 @@ cut : (s : List ℕ) (n : ℕ) (ended : Bool) → n < length s → ended ≡ fal
 unfolding closed
 cut s n ended l e = rw (add-one n, e) (take-suc-set s n 35 l)
 
-returns : tie.Need-returns
-returns c = (counts _ _ (omega arith), whole _ _ c.if1.true)
+pub returns-then-ended : goal.returns-then-ended
+returns-then-ended c =  record { prefix_len = counts _ _ (omega arith); text_after = whole _ _ c.if-ended.true }
 
-slice-write-text : tie.Need-slice-write-text
-slice-write-text c = search rules
-
-add-result : tie.Need-overflow-add-result
-add-result c = search rules
-
-same_length : tie.Need-same-length
-same_length c = search rules
-
-returns-2 : tie.Need-returns-2
-returns-2 c =
-    let same = length-set c.before.args.text.now c.before.args.size 35 in
-    (counts _ _ (omega arith), cut _ _ _ c.before.requires c.if1.false)
-
-pub close_spec : {M : Type 1} → statement M
-close_spec = tie.close (tie.spec returns slice-write-text add-result same_length returns-2)
+pub returns : goal.returns
+returns c =
+    let same = length-set c.args.text.now c.args.size 35 in
+     record { prefix_len = counts _ _ (omega arith); text_after = cut _ _ _ c.requires c.if-ended.false }
