@@ -8,7 +8,6 @@ use lib.Dec.{eqb, ltb, leb}
 use lib.ListN.{get_or, set}
 use lib.Seq.{get_or-set_same, get_or-set_other}
 use borrow.Author.Tests.{le-leb, lt-leb, eq-eqb, ne_eqb}
-use Rattle.sheet.specs.Square.{at}
 use Rattle.base.proofs.Cases.{case, lt_ge, eq_ne}
 use Rattle.roommates.specs.Lists.{Square, row, best_band, band_size}
 use Rattle.roommates.specs.PhaseOne.{Work, fresh, waits, step}

@@ -12,7 +12,6 @@ use Rattle.sections.specs.declared.Entry.{Entry}
 use Rattle.sections.specs.Entries.{band_in}
 use Rattle.sections.specs.Claims.{Sound, Each}
 use Rattle.square.specs.Mutual.{returned, mutual_entries, mutual_band}
-use Rattle.square.specs.Square.{at}
 use Rattle.square.specs.Claims.{MutualPlaces, MutualPromise}
 use Rattle.square.proofs.Only.{only_each, only_band}
 use Rattle.square.proofs.Bands.{band_inside, band_itself, band_small}

@@ -17,15 +17,15 @@ return_to-requires c = let all = c.requires in (λ m l h. (all.marks_lawful m l 
 
 pub returns-in-0 : goal.returns-in-0
 returns-in-0 c =
-     record { result_after = step_acts _ _ _ c.args.choice c.wide-x.ensures.value c.in-0.is (c.step.ensures.result_after _); all_lawful = c.step.ensures.keep_lawful _ c.requires }
+    record { result_after = step_acts _ _ _ c.args.choice c.wide-x.ensures.value c.in-0.is (c.step.ensures.result_after _); all_lawful = c.step.ensures.keep_lawful _ c.requires }
 
 pub returns-in-1 : goal.returns-in-1
 returns-in-1 c =
-     record { result_after = mark_acts _ _ _ c.args.choice c.wide-x.ensures.value c.in-1.is c.set_mark.ensures.result_after; all_lawful = c.set_mark.ensures.keep_lawful _ _ c.requires }
+    record { result_after = mark_acts _ _ _ c.args.choice c.wide-x.ensures.value c.in-1.is c.set_mark.ensures.result_after; all_lawful = c.set_mark.ensures.keep_lawful _ _ c.requires }
 
 pub returns-in-2 : goal.returns-in-2
 returns-in-2 c =
-     record { result_after = return_acts _ _ _ c.args.choice c.wide-x.ensures.value c.in-2.is c.return_to.ensures.result_after; all_lawful = c.return_to.ensures.keep_lawful _ _ c.requires }
+    record { result_after = return_acts _ _ _ c.args.choice c.wide-x.ensures.value c.in-2.is c.return_to.ensures.result_after; all_lawful = c.return_to.ensures.keep_lawful _ _ c.requires }
 
 pub returns-in_default : goal.returns-in_default
 returns-in_default c =
@@ -33,4 +33,3 @@ returns-in_default c =
     let e = c.refuse_record.ensures _ _ in
     let over : 3 ≤ c.args.choice.kind = omega arith in
     record { result_after = e ∙ sym (kind_other _ _ _ c.args.choice over); all_lawful = refused_keeps _ _ c.args.state r _ _ e c.requires }
-

@@ -11,7 +11,7 @@ returns-then-m-ge8 c =
     let s = c.args.state in
     let r = c.refuse_record.result in
     let e = c.refuse_record.ensures _ _ in
-     record { result_after = nowhere_to _ _ s _ r c.if-m-ge8.true e; keep_lawful = λ whole n. refused_keeps _ _ s r whole n e }
+    record { result_after = nowhere_to _ _ s _ r c.if-m-ge8.true e; keep_lawful = λ whole n. refused_keeps _ _ s r whole n e }
 
 pub returns-then-not-mark : goal.returns-then-not-mark
 returns-then-not-mark c =
@@ -20,8 +20,7 @@ returns-then-not-mark c =
     let r = c.refuse_record-then-not-mark.result in
     let e = c.refuse_record-then-not-mark.ensures _ _ in
     let read = get_d_inside s.marks c.args.m _ _ (omega (arith, c.requires.1)) in
-     record { result_after = not_set_to _ _ s _ l _ read r (not-true _ c.if-not-mark.true) e; keep_lawful = λ whole n. refused_keeps _ _ s r whole n e }
-
+    record { result_after = not_set_to _ _ s _ l _ read r (not-true _ c.if-not-mark.true) e; keep_lawful = λ whole n. refused_keeps _ _ s r whole n e }
 
 pub returns : goal.returns
 returns c =
@@ -33,4 +32,3 @@ returns c =
       result_after = returns_so _ _ s _ l _ read yes c.requires.0;
       keep_lawful = return_keeps _ _ s _ l _ read yes;
     }
-

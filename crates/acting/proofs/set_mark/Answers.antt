@@ -9,7 +9,7 @@ returns-then-m-ge8 c =
     let s = c.args.state in
     let r = c.refuse_record.result in
     let e = c.refuse_record.ensures _ _ in
-     record { result_after = no_mark_set _ _ s _ r c.if-m-ge8.true e; keep_lawful = λ whole n. refused_keeps _ _ s r whole n e }
+    record { result_after = no_mark_set _ _ s _ r c.if-m-ge8.true e; keep_lawful = λ whole n. refused_keeps _ _ s r whole n e }
 
 pub returns : goal.returns
 returns c =
@@ -20,4 +20,3 @@ returns c =
       result_after = marks_so _ _ s _ l c.requires.1.0 c.requires.1.1 c.requires.0;
       keep_lawful = mark_keeps _ _ s _ l c.requires.1.0 c.requires.1.1;
     }
-

@@ -1,5 +1,5 @@
 use mathlib.Core.Path.{sym, ◌∙◌}
-use Prim.Native.Nat.{◌-◌, ◌≤◌, ◌<◌}
+use Prim.Native.Nat.{◌≤◌, ◌<◌}
 use native.Mathlib.Omega.{arith}
 use Rattle.base.proofs.Lowest.{search_starts, search_finds, search_goes_on, search_ends}
 use Rattle.blocking.specs.Blocking.{blocker}
@@ -19,11 +19,14 @@ blocks-requires c = let p = c.requires in (p.0, p.1, omega arith, p.2)
 pub loop-a-preserved : goal.loop-a-preserved
 loop-a-preserved c =
     let at_loop_a = (goal.at.loop-a-preserved c).In-loop-a in
-    (elim c.if-blocks.branch [ then-blocks w ↦ rw w.low-is
-    (search_finds _ _ _ _ c.loop-a.invariant (ahead at_loop_a)
-    (sym c.blocks-in-loop-a.ensures ∙ w.if-blocks.true)) | else-blocks w ↦ rw w.low-is
-    (search_goes_on _ _ _ _ c.loop-a.invariant (ahead at_loop_a)
-    (sym c.blocks-in-loop-a.ensures ∙ w.if-blocks.false)) ])
+    (elim c.if-blocks.branch [
+      | then-blocks w ↦ rw w.low-is
+          (search_finds _ _ _ _ c.loop-a.invariant (ahead at_loop_a)
+          (sym c.blocks-in-loop-a.ensures ∙ w.if-blocks.true))
+      | else-blocks w ↦ rw w.low-is
+          (search_goes_on _ _ _ _ c.loop-a.invariant (ahead at_loop_a)
+          (sym c.blocks-in-loop-a.ensures ∙ w.if-blocks.false))
+    ])
 
 pub returns : goal.returns
 unfolding blocker

@@ -22,9 +22,9 @@ unfolding closed
 cut s n ended l e = rw (add-one n, e) (take-suc-set s n 35 l)
 
 pub returns-then-ended : goal.returns-then-ended
-returns-then-ended c =  record { prefix_len = counts _ _ (omega arith); text_after = whole _ _ c.if-ended.true }
+returns-then-ended c = record { prefix_len = counts _ _ (omega arith); text_after = whole _ _ c.if-ended.true }
 
 pub returns : goal.returns
 returns c =
     let same = length-set c.args.text.now c.args.size 35 in
-     record { prefix_len = counts _ _ (omega arith); text_after = cut _ _ _ c.requires c.if-ended.false }
+    record { prefix_len = counts _ _ (omega arith); text_after = cut _ _ _ c.requires c.if-ended.false }

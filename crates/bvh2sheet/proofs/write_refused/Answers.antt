@@ -9,7 +9,6 @@ use Rattle.writing.specs.Written.{Wrote}
 use Rattle.writing.proofs.Writings.{wrote_length, front_wrote}
 use Rattle.writing.proofs.Decimals.{number_line_short}
 use Rattle.bvh2sheet.specs.Said.{refused_word, refused_line}
-use borrow.Author.Rules.{rules}
 use Rattle.bvh2sheet.proofs.write_refused.Goals as goal
 
 -- the line begins its buffer
@@ -22,9 +21,6 @@ said {l} {l₁} {r} k room wrote =
       (within, sym (length-take-le r l₁ within)),
       rw (end, left) (take-append_seam (refused_line k) (drop (length (refused_line k)) l)),
     )
-
--- LOST GOAL slice-aggregate-write-number-line
--- slice-aggregate-write-number-line c = search rules
 
 pub returns : goal.returns
 returns c =

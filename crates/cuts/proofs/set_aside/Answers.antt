@@ -1,5 +1,4 @@
 use mathlib.Core.Path.{◌≡◌, refl, ◌∙◌}
-use Prim.Native.Nat.{◌-◌}
 use native.Mathlib.Omega.{arith}
 use Rattle.roommates.specs.PhaseTwo.{aside_below}
 use Rattle.cuts.proofs.LawsCuts.{aside_hit, aside_miss}

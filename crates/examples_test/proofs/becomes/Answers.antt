@@ -1,6 +1,4 @@
-use mathlib.Core.Path.{sym}
 use lib.ListN.{replicate}
-use lib.Seq.{length-take-le}
 use Rattle.bvh.proofs.Within.{sheet_within}
 use Rattle.examples_test.proofs.becomes.Goals as goal
 

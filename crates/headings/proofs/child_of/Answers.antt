@@ -1,25 +1,15 @@
 use mathlib.Core.Path.{refl, sym, ◌∙◌}
 use mathlib.Core.Bool.{true, false}
-use borrow.Author.Rules.{rules}
 use Rattle.headings.proofs.HeadingLaws.{child_is}
 use Rattle.headings.proofs.child_of.Goals as goal
 
--- LOST GOAL slice-aggregate-is-word
--- slice-aggregate-is-word c = search rules
-
 pub returns-then-closes : goal.returns-then-closes
 returns-then-closes c = child_is c.requires true _ _ (sym c.if-closes.true ∙ c.is_word-closes.ensures) refl refl
-
--- LOST GOAL slice-aggregate-is-word-2
--- slice-aggregate-is-word-2 c = search rules
 
 pub returns-then-ends : goal.returns-then-ends
 returns-then-ends c =
     child_is c.requires false true _ (sym c.if-closes.false ∙ c.is_word-closes.ensures)
     (sym c.if-ends.true ∙ c.is_word-ends.ensures) refl
-
--- LOST GOAL slice-aggregate-is-word-3
--- slice-aggregate-is-word-3 c = search rules
 
 pub returns-then-nests : goal.returns-then-nests
 returns-then-nests c =

@@ -1,4 +1,3 @@
-use borrow.Author.Rules.{rules}
 use Rattle.words.specs.declared.Reached.TheVariants.{Broken}
 use Rattle.headings.specs.Headings.{heading}
 use Rattle.headings.proofs.HeadingLaws.{chain_within, chain_on, chain_broken}
@@ -7,9 +6,6 @@ use Rattle.headings.proofs.heading_at.Goals as goal
 pub returns-in_default : goal.returns-in_default
 unfolding heading
 returns-in_default c = chain_broken _ _ _ _ c.in_default.is c.opening_at-opened.ensures
-
--- LOST GOAL slice-aggregate-keyword-at
--- slice-aggregate-keyword-at c = search rules
 
 pub keyword_at-channels-requires : goal.keyword_at-channels-requires
 keyword_at-channels-requires c =

@@ -1,18 +1,11 @@
-use borrow.Author.Rules.{rules}
 use Rattle.words.specs.declared.Reached.TheVariants.{Broken}
 use Rattle.headings.specs.Headings.{opening}
 use Rattle.headings.proofs.HeadingLaws.{chain_within, chain_on, chain_broken}
 use Rattle.headings.proofs.opening_at.Goals as goal
 
--- LOST GOAL slice-aggregate-keyword-at
--- slice-aggregate-keyword-at c = search rules
-
 pub returns-in_default : goal.returns-in_default
 unfolding opening
 returns-in_default c = chain_broken _ _ _ _ c.in_default.is c.keyword_at-brace.ensures
-
--- LOST GOAL slice-aggregate-keyword-at-2
--- slice-aggregate-keyword-at-2 c = search rules
 
 pub keyword_at-offset-requires : goal.keyword_at-offset-requires
 keyword_at-offset-requires c =

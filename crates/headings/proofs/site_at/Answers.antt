@@ -1,11 +1,7 @@
-use borrow.Author.Rules.{rules}
 use Rattle.words.specs.declared.Reached.TheVariants.{Broken}
 use Rattle.headings.specs.Headings.{site}
 use Rattle.headings.proofs.HeadingLaws.{chain_within, chain_on, chain_broken}
 use Rattle.headings.proofs.site_at.Goals as goal
-
--- LOST GOAL slice-aggregate-keyword-at
--- slice-aggregate-keyword-at c = search rules
 
 pub returns-in_default : goal.returns-in_default
 unfolding site
@@ -20,9 +16,6 @@ unfolding site
 returns-in_default-opened c =
     chain_on _ _ _ _ Broken c.in-At.is c.keyword_at-word.ensures
     (chain_broken _ _ _ _ c.in_default-opened.is c.opening_at-opened.ensures)
-
--- LOST GOAL slice-aggregate-keyword-at-2
--- slice-aggregate-keyword-at-2 c = search rules
 
 pub keyword_at-requires : goal.keyword_at-requires
 keyword_at-requires c =

@@ -1,7 +1,6 @@
 use mathlib.Core.Path.{◌≡◌, sym, ap, ◌∙◌}
 use mathlib.Core.List.{List}
 use Prim.Native.Nat.{ℕ}
-use borrow.Author.Rules.{rules}
 use Rattle.sections.specs.Labels.{label_at}
 use Rattle.calls.specs.declared.End.{End}
 use Rattle.calls.specs.declared.Settled.{Settled}
@@ -29,7 +28,7 @@ slice_bounds-write_pairing-end c = sym (paired (goal.at.slice_bounds-write_pairi
 pub write_pairing-requires : goal.write_pairing-requires
 write_pairing-requires c =
     let p = paired (goal.at.write_pairing-requires c).In-Paired in
-     record { listable = record { labelled = rw p.size c.requires.labelled; within = rw p.size p.within }; in_bounds = c.requires.in_bounds }
+    record { listable = record { labelled = rw p.size c.requires.labelled; within = rw p.size p.within }; in_bounds = c.requires.in_bounds }
 
 pub returns-in-Refused : goal.returns-in-Refused
 returns-in-Refused c =
@@ -46,11 +45,8 @@ returns-in-Paired c =
 pub shape_of-out-in-Refused : goal.shape_of-out-in-Refused
 shape_of-out-in-Refused c = wrote_length (returns-in-Refused c)
 
-
 pub shape_of-out-in-None : goal.shape_of-out-in-None
 shape_of-out-in-None c = wrote_length (returns-in-None c)
 
-
 pub shape_of-out-in-Paired : goal.shape_of-out-in-Paired
 shape_of-out-in-Paired c = wrote_length (returns-in-Paired c)
-

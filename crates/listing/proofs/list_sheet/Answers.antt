@@ -8,7 +8,7 @@ pub list_lists-requires : goal.list_lists-requires
 list_lists-requires c =
     let l = c.lists-found in
     let known = lists_as _ l.ensures.value _ l.ensures.bands_after c.in-Accepted.is in
-     record { labelled = (listed_sheet _ _ _ known).labelled; in_bounds = omega arith; square_promise = known.promise }
+    record { labelled = (listed_sheet _ _ _ known).labelled; in_bounds = omega arith; square_promise = known.promise }
 
 pub returns-in-Refused : goal.returns-in-Refused
 returns-in-Refused c =

@@ -1,9 +1,5 @@
-use borrow.Author.Rules.{rules}
 use Rattle.writing.proofs.Writings.{wrote_length}
 use Rattle.listing.proofs.write_none.Goals as goal
-
--- LOST GOAL slice-aggregate-write-number-line
--- slice-aggregate-write-number-line c = search rules
 
 pub returns : goal.returns
 returns c = rw c.wide.ensures.value at c.write_number_line.ensures

@@ -3,7 +3,6 @@ use mathlib.Core.List.{List}
 use Prim.Native.Nat.{ℕ, ◌+◌, ◌*◌, ◌-◌, ◌≤◌}
 use native.Mathlib.Omega.{arith}
 use lib.ListN.{length}
-use borrow.Author.Rules.{rules}
 use Rattle.base.specs.Below.{joined}
 use Rattle.sections.specs.Labels.{label_at}
 use Rattle.matching.specs.Matchings.{pair_count, alone_count}

@@ -1,12 +1,10 @@
 use mathlib.Core.Path.{◌≡◌, sym}
-use mathlib.Core.Bool.{true}
-use Prim.Native.Nat.{◌-◌}
 use native.Mathlib.Omega.{arith}
 use lib.ListN.{length}
 use borrow.Author.Tests.{eq-eqb, ne_eqb}
 use Rattle.base.proofs.AllBelow.{all_zero_lem, all_next, all_miss}
 use Rattle.base.proofs.Tests.{said_yes, said_no}
-use Rattle.matching.specs.Matchings.{is_placed, is_matching}
+use Rattle.matching.specs.Matchings.{is_matching}
 use Rattle.matching.proofs.is_matching.Goals as goal
 use Rattle.matching.proofs.is_matching.Goals.{Else-pairing-joints}
 

@@ -2,7 +2,6 @@
 use mathlib.Core.Path.{◌≡◌}
 use native.Mathlib.Omega.{arith}
 use borrow.Author.Tests.{le-ltb, lt-ltb, eq-eqb, ne_eqb}
-use borrow.Author.Rules.{rules}
 use Rattle.matching.specs.Matchings.{is_paired}
 use Rattle.matching.proofs.is_paired.Goals as goal
 
@@ -15,12 +14,6 @@ unfolding is_paired
 returns-then-partner-a c =
     let apart : c.partner.result ≡ c.args.a → ⊥ = omega arith in
     rw (lt-ltb _ _ c.if-joints-p.false, ← c.partner.ensures, ne_eqb _ _ apart)
-
--- LOST GOAL bounds-1-result
--- index-1-result c = search rules
-
--- LOST GOAL bounds-2-result
--- index-2-result c = search rules
 
 pub returns : goal.returns
 unfolding is_paired

@@ -1,5 +1,3 @@
-use mathlib.Core.Bool.{false}
-use Prim.Native.Nat.{◌-◌}
 use native.Mathlib.Omega.{arith}
 use Rattle.base.proofs.AnyBelow.{any_zero}
 use Rattle.names.proofs.KeptLaws.{known_hit, known_next, known_end}

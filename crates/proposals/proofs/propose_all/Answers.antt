@@ -1,5 +1,4 @@
 use mathlib.Core.Path.{◌≡◌, refl, ◌∙◌}
-use Prim.Native.Nat.{◌-◌}
 use native.Mathlib.Omega.{arith}
 use Rattle.roommates.specs.PhaseOne.{propose_all}
 use Rattle.proposals.proofs.LawsProposals.{propose_hit, propose_miss}

@@ -1,5 +1,4 @@
 use mathlib.Core.Path.{◌≡◌, refl, ◌∙◌}
-use Prim.Native.Nat.{◌-◌}
 use native.Mathlib.Omega.{arith}
 use Rattle.roommates.specs.PhaseOne.{receive_all}
 use Rattle.proposals.proofs.LawsProposals.{receive_hit, receive_miss}

@@ -1,5 +1,4 @@
 use mathlib.Core.Path.{◌≡◌, sym, ◌∙◌}
-use Prim.Native.Nat.{◌-◌}
 use native.Mathlib.Omega.{arith}
 use Rattle.base.proofs.AnyBelow.{any_zero, any_more, any_same}
 use Rattle.roommates.specs.PhaseOne.{some_emptied}

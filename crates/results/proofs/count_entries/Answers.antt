@@ -1,8 +1,7 @@
 use mathlib.Core.Path.{◌≡◌, sym, ◌∙◌, ap₂}
-use Prim.Native.Nat.{◌+◌, ◌-◌}
+use Prim.Native.Nat.{◌+◌}
 use native.Mathlib.Omega.{arith}
 use Rattle.base.proofs.SumBelow.{sum_zero, sum_next}
-use Rattle.roommates.specs.Lists.{list_length}
 use Rattle.results.proofs.count_entries.Invariants.{lengths}
 use Rattle.results.proofs.count_entries.Goals as goal
 

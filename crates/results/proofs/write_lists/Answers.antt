@@ -27,4 +27,4 @@ pub returns : goal.returns
 returns c =
     let count = c.count_entries-count.ensures in
     let all = wrote_append (wrote_append c.put-second.ensures c.put-third.ensures) c.write_rows.ensures in
-     record { value = count; out_after = lists_wrote c.args.n c.args.bands.now count c.requires.1 all }
+    record { value = count; out_after = lists_wrote c.args.n c.args.bands.now count c.requires.1 all }

@@ -1,12 +1,12 @@
 use mathlib.Core.Path.{◌≡◌}
 use mathlib.Core.List.{List}
-use Prim.Native.Nat.{ℕ, ◌-◌}
+use Prim.Native.Nat.{ℕ}
 use native.Mathlib.Omega.{arith}
 use Rattle.base.specs.Below.{joined}
 use Rattle.writing.specs.Written.{Wrote}
 use Rattle.writing.proofs.Writings.{joined_none, joined_wrote, wrote_length, front_wrote}
 use Rattle.roommates.specs.Lists.{Square}
-use Rattle.roommates.specs.Left.{partner_on, pairing_of}
+use Rattle.roommates.specs.Left.{pairing_of}
 use Rattle.roommates.proofs.PairsWritten.{pairing_length}
 use Rattle.results.proofs.write_partners.Invariants.{byte}
 use Rattle.results.proofs.write_partners.Goals as goal

@@ -1,5 +1,4 @@
 use mathlib.Core.Path.{◌≡◌}
-use Prim.Native.Nat.{◌-◌}
 use native.Mathlib.Omega.{arith}
 use Rattle.base.proofs.Joined.{joined_within}
 use Rattle.writing.proofs.Writings.{joined_none, joined_wrote, wrote_length}

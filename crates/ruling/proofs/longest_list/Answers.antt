@@ -1,4 +1,3 @@
-use Prim.Native.Nat.{◌-◌}
 use native.Mathlib.Omega.{arith}
 use Rattle.base.proofs.Argmax.{argmax_starts, argmax_next, argmax_same, argmax_ends}
 use Rattle.roommates.specs.PhaseTwo.{longest_list}

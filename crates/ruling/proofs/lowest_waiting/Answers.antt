@@ -1,9 +1,7 @@
 use mathlib.Core.Path.{sym, ◌∙◌}
-use Prim.Native.Nat.{◌-◌}
 use native.Mathlib.Omega.{arith}
 use native.Mathlib.Nat.{sub-zero}
 use Rattle.base.proofs.Lowest.{lowest_hit, lowest_miss, lowest_none}
-use Rattle.roommates.specs.PhaseOne.{list_waits}
 use Rattle.ruling.proofs.lowest_waiting.Goals as goal
 
 pub loop-p-init : goal.loop-p-init

@@ -138,4 +138,4 @@ returns c =
     let at_accepted = (goal.at.returns c).In-Accepted in
     let clean-parents = (section_read _ _ (parents_are (goal.at.returns c).After-read_third-third) c.in-Read-third.is).0 in
     let all = all_read (sheet at_accepted) _ (decided (goal.at.returns c).In-Read 0 clean-parents) in
-     record { value = ap Accepted (read at_accepted).parts_are ∙ all.0; bands_after = filled_is c ∙ all.1 }
+    record { value = ap Accepted (read at_accepted).parts_are ∙ all.0; bands_after = filled_is c ∙ all.1 }

@@ -1,4 +1,3 @@
-use Prim.Native.Nat.{◌-◌}
 use native.Mathlib.Omega.{arith}
 use Rattle.sheet_test.proofs.agreeing.Goals as goal
 use Rattle.sheet_test.proofs.agreeing.Goals.{else-case_agrees, then-case_agrees}

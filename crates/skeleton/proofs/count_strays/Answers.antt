@@ -1,9 +1,7 @@
 use mathlib.Core.Path.{◌≡◌, sym, ◌∙◌}
-use Prim.Native.Nat.{◌-◌}
 use native.Mathlib.Omega.{arith}
 use lib.ListN.{length}
 use Rattle.base.proofs.CountBelow.{count_zero, count_hit, count_miss}
-use Rattle.skeleton.specs.Following.{is_stray}
 use Rattle.skeleton.proofs.count_strays.Goals as goal
 use Rattle.skeleton.proofs.count_strays.Goals.{else-is_stray, then-is_stray}
 
@@ -11,7 +9,7 @@ pub loop-b-init : goal.loop-b-init
 loop-b-init c = (omega arith, (omega arith, sym (count_zero _)))
 
 pub is_stray-requires : goal.is_stray-requires
-is_stray-requires c = let pre = c.requires in  record { lower = pre; b_in_bounds = omega (arith, pre.1, c.loop-b-test.true) }
+is_stray-requires c = let pre = c.requires in record { lower = pre; b_in_bounds = omega (arith, pre.1, c.loop-b-test.true) }
 
 pub loop-b-preserved : goal.loop-b-preserved
 loop-b-preserved c =

@@ -46,4 +46,3 @@ judge-requires c =
     let o = each at_not_is_matching in
     let many = as_many c.args.joints c.args.bands.now c.args.pairing.now (matches at_not_is_matching) in
     rw (rest_is 1 c.args.third.now) record { lower = (o.lower, omega (arith, many, o.whole)); pairing_len_bound = omega (arith, many, c.requires.0) }
-

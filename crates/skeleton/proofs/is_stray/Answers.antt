@@ -12,7 +12,7 @@ unfolding is_stray
 returns-then-b-a c = rw (← c.partner-a.ensures, le-ltb _ _ c.if-b-a.true)
 
 pub follows-requires : goal.follows-requires
-follows-requires c = let pre = c.requires in  record { lower = pre.lower; a_in_bounds = (omega (arith, c.if-b-a.false, pre.b_in_bounds), pre.b_in_bounds) }
+follows-requires c = let pre = c.requires in record { lower = pre.lower; a_in_bounds = (omega (arith, c.if-b-a.false, pre.b_in_bounds), pre.b_in_bounds) }
 
 pub returns : goal.returns
 unfolding is_stray

@@ -1,8 +1,7 @@
 use mathlib.Core.Path.{sym, ◌∙◌}
-use Prim.Native.Nat.{◌-◌, ◌≤◌, ◌<◌}
+use Prim.Native.Nat.{◌≤◌, ◌<◌}
 use native.Mathlib.Omega.{arith}
 use Rattle.base.proofs.Lowest.{search_starts, search_finds, search_goes_on, search_ends}
-use Rattle.skeleton.specs.Following.{is_stray}
 use Rattle.skeleton.proofs.lowest_stray.Goals as goal
 use Rattle.skeleton.proofs.lowest_stray.Goals.{In-loop-b, else-is_stray, then-is_stray}
 
@@ -14,7 +13,7 @@ pub loop-b-init : goal.loop-b-init
 loop-b-init c = search_starts _ _
 
 pub is_stray-requires : goal.is_stray-requires
-is_stray-requires c = let pre = c.requires in  record { lower = pre; b_in_bounds = omega (arith, pre.1) }
+is_stray-requires c = let pre = c.requires in record { lower = pre; b_in_bounds = omega (arith, pre.1) }
 
 pub loop-b-preserved : goal.loop-b-preserved
 loop-b-preserved c =

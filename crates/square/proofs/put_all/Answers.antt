@@ -14,12 +14,6 @@ loop-j-init c = (omega arith, rw (from_end, placed_none) c.requires.bands_value)
 pub offset_bounds-bands-a : goal.offset_bounds-bands-a
 offset_bounds-bands-a c = let h = below c in omega arith
 
--- LOST GOAL bounds-1-bands
--- index-1-bands c = (below c).0
-
--- LOST GOAL bounds-2-bands
--- index-2-bands c = (below c).1
-
 pub loop-j-preserved : goal.loop-j-preserved
 loop-j-preserved c = (
   omega arith,

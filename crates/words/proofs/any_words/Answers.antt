@@ -1,5 +1,4 @@
 use mathlib.Core.Path.{◌∙◌}
-use Prim.Native.Nat.{◌-◌}
 use native.Mathlib.Omega.{arith}
 use Rattle.words.proofs.MetLaws.{any_start, any_none, any_next, any_end}
 use Rattle.words.proofs.any_words.Goals as goal

@@ -47,7 +47,7 @@ returns-in-NoneTwo c =
 pub returns-in-Paired : goal.returns-in-Paired
 returns-in-Paired c =
     let so = at (goal.at.returns-in-Paired c).Else-end-ge1 Paired c.in-Paired.is in
-     record { value = ap (λ (k : ℕ). S.Ended (E.Paired k)) c.write_pairing.ensures.value ∙ so.0; out_after = c.write_pairing.ensures.out_after ∙ so.1 }
+    record { value = ap (λ (k : ℕ). S.Ended (E.Paired k)) c.write_pairing.ensures.value ∙ so.0; out_after = c.write_pairing.ensures.out_after ∙ so.1 }
 
 pub returns-in-Proposing : goal.returns-in-Proposing
 returns-in-Proposing c =

@@ -4,7 +4,6 @@ use mathlib.Core.List.{◌++◌}
 use Prim.Native.Nat.{ℕ}
 use native.Mathlib.Omega.{arith}
 use lib.ListN.{drop}
-use lib.Seq.{length-take-le}
 use Rattle.roommates.specs.Left.{pairing_of}
 use Rattle.roommates.proofs.PairsWritten.{pairing_length}
 use Rattle.matching.specs.Matchings.{pair_count}
@@ -25,4 +24,4 @@ pub returns : goal.returns
 returns c =
     let a = c.args in
     let bytes = pairing_of a.n a.lists.now in
-     record { value = counted c; out_after = c.write_partners.ensures ∙ ap (λ (l : ℕ). bytes ++ drop l a.out.now) (sym (pairing_length a.n a.lists.now)) }
+    record { value = counted c; out_after = c.write_partners.ensures ∙ ap (λ (l : ℕ). bytes ++ drop l a.out.now) (sym (pairing_length a.n a.lists.now)) }

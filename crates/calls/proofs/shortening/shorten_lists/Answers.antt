@@ -65,7 +65,7 @@ returns-in-Paired c =
     let bytes = list_bytes a.n c.working-end.new.left in
     let count = c.write_lists.ensures.value in
     let long : 2 + 3 * c.write_lists.result ≡ length bytes = omega (arith, count, bytes_length a.n c.working-end.new.left) in
-     record { value = ap (λ (k : ℕ). L.Lists k) count ∙ so.0; out_after = c.write_lists.ensures.out_after ∙ (ap (λ (l : ℕ). bytes ++ drop l a.out.now) long ∙ so.1) }
+    record { value = ap (λ (k : ℕ). L.Lists k) count ∙ so.0; out_after = c.write_lists.ensures.out_after ∙ (ap (λ (l : ℕ). bytes ++ drop l a.out.now) long ∙ so.1) }
 
 pub returns-in-Proposing : goal.returns-in-Proposing
 returns-in-Proposing c =

@@ -1,12 +1,11 @@
 use mathlib.Core.Path.{◌≡◌, sym, ap, ◌∙◌}
 use mathlib.Core.Bool.{true}
 use mathlib.Core.List.{List}
-use Prim.Native.Nat.{ℕ, ◌-◌, ◌<◌}
+use Prim.Native.Nat.{ℕ, ◌<◌}
 use native.Mathlib.Omega.{arith}
 use lib.ListN.{length}
 use Rattle.base.proofs.Joined.{joined_within}
 use Rattle.sections.specs.Labels.{label_at}
-use Rattle.matching.specs.Matchings.{partner}
 use Rattle.writing.specs.Written.{Wrote}
 use Rattle.writing.proofs.Writings.{joined_none, joined_wrote, wrote_taken, wrote_left, wrote_length}
 use Rattle.listing.specs.Text.{is_lower, pair_part}
@@ -59,4 +58,3 @@ label_of-second-requires c =
     let h : c.loop-i.i < length (M at_loop_i) = omega arith in
     let p = c.requires.listable.within c.loop-i.i h (lower_paired (M at_loop_i) c.loop-i.i (lower (goal.at.label_of-second-requires c).After-partner)) in
     rw c.partner.ensures (omega arith)
-

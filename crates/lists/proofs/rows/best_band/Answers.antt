@@ -1,5 +1,4 @@
 use mathlib.Core.Path.{◌≡◌, refl}
-use Prim.Native.Nat.{◌-◌}
 use native.Mathlib.Omega.{arith}
 use Rattle.roommates.specs.Lists.{best_band}
 use Rattle.lists.proofs.LawsLists.{best_more}

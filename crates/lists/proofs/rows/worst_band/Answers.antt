@@ -1,5 +1,4 @@
 use mathlib.Core.Path.{◌≡◌, refl, ◌∙◌}
-use Prim.Native.Nat.{◌-◌}
 use native.Mathlib.Omega.{arith}
 use Rattle.roommates.specs.Lists.{worst_band}
 use Rattle.lists.proofs.LawsLists.{worst_hit, worst_miss}

@@ -1,5 +1,4 @@
 use mathlib.Core.Path.{◌≡◌, sym, ◌∙◌}
-use Prim.Native.Nat.{◌-◌}
 use native.Mathlib.Omega.{arith}
 use Rattle.base.proofs.CountBelow.{count_zero, count_hit, count_miss}
 use Rattle.lists.proofs.strikes.standing_at.Goals as goal

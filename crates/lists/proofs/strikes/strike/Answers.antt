@@ -1,5 +1,4 @@
 use mathlib.Core.Path.{◌≡◌, refl, sym, ◌∙◌}
-use Prim.Native.Nat.{◌-◌}
 use native.Mathlib.Omega.{arith}
 use Rattle.roommates.specs.Lists.{strike_if}
 use Rattle.lists.proofs.LawsStrikes.{strike_hit, strike_miss}

@@ -9,4 +9,4 @@ imported_code-requires c =
 
 pub returns : goal.returns
 returns c =
-     record { value = c.imported_code.ensures ∙ ap imported_code c.import.ensures.value; out_after = c.import.ensures.out_after }
+    record { value = c.imported_code.ensures ∙ ap imported_code c.import.ensures.value; out_after = c.import.ensures.out_after }

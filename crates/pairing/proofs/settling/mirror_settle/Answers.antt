@@ -10,4 +10,4 @@ settled_code-requires c = λ k e.
 
 pub returns : goal.returns
 returns c =
-     record { value = c.settled_code.ensures ∙ ap settled_code c.settle.ensures.value; out_after = c.settle.ensures.out_after }
+    record { value = c.settled_code.ensures ∙ ap settled_code c.settle.ensures.value; out_after = c.settle.ensures.out_after }

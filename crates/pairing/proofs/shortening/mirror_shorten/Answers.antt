@@ -10,4 +10,4 @@ shortened_code-requires c = λ k e.
 
 pub returns : goal.returns
 returns c =
-     record { value = c.shortened_code.ensures ∙ ap shortened_code c.shorten.ensures.value; out_after = c.shorten.ensures.out_after }
+    record { value = c.shortened_code.ensures ∙ ap shortened_code c.shorten.ensures.value; out_after = c.shorten.ensures.out_after }

@@ -1,7 +1,6 @@
-use Rattle.std.proofs.Common.{◌≡◌, ◌<◌, ℕ, List, sym, ◌∙◌, arith}
+use Rattle.std.proofs.Common.{◌≡◌, sym, ◌∙◌}
 use Rattle.parents.specs.Parents.{parent_of}
-use Rattle.parents.specs.Claims.{Lower}
-use Rattle.parents.proofs.DepthRule.{depth_root, parent_lower, depth_above}
+use Rattle.parents.proofs.DepthRule.{depth_root, depth_above}
 use Rattle.parents.proofs.depths.+depth.Goals as goal
 
 pub returns-then-above-eq-ROOT-clause-value : goal.returns-then-above-eq-ROOT-clause-value

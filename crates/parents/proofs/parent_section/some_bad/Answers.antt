@@ -1,6 +1,4 @@
 use mathlib.Core.Path.{sym, ◌∙◌}
-use mathlib.Core.Bool.{false}
-use Prim.Native.Nat.{◌-◌}
 use native.Mathlib.Omega.{arith}
 use Rattle.base.proofs.AnyBelow.{any_hit, any_next, any_zero, any_end}
 use Rattle.parents.proofs.parent_section.some_bad.Goals as goal

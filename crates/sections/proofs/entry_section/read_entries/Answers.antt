@@ -1,7 +1,6 @@
 use Rattle.base.proofs.Faults.{below_zero, below_next, below_hit, below_end}
 use Rattle.sections.proofs.SectionLaws.{refused_with, read_whole}
 use mathlib.Core.Path.{sym, ◌∙◌}
-use Prim.Native.Nat.{◌-◌}
 use native.Mathlib.Omega.{arith}
 use Rattle.sections.proofs.entry_section.read_entries.Goals as goal
 

@@ -1,7 +1,5 @@
 use Rattle.base.proofs.AnyBelow.{any_end, any_hit, any_next, any_zero}
 use mathlib.Core.Path.{sym, ◌∙◌}
-use mathlib.Core.Bool.{false}
-use Prim.Native.Nat.{◌-◌}
 use native.Mathlib.Omega.{arith}
 use Rattle.sections.proofs.label_section.repeats_any.Goals as goal
 

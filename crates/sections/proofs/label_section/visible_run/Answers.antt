@@ -1,6 +1,6 @@
 use mathlib.Core.Path.{sym, ◌∙◌}
 use mathlib.Core.List.{List}
-use Prim.Native.Nat.{ℕ, ◌-◌}
+use Prim.Native.Nat.{ℕ}
 use native.Mathlib.Omega.{arith}
 use Rattle.sections.proofs.LabelLaws.{run_more, run_stop, run_end}
 use Rattle.sections.proofs.label_section.visible_run.Goals as goal

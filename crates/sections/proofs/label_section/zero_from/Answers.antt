@@ -1,5 +1,4 @@
 use mathlib.Core.Path.{refl, sym, ◌∙◌}
-use Prim.Native.Nat.{◌-◌}
 use native.Mathlib.Omega.{arith}
 use Rattle.sections.proofs.LabelLaws.{zero_more, zero_stop, zero_end}
 use Rattle.sections.proofs.label_section.zero_from.Goals as goal

@@ -1,4 +1,3 @@
-use Prim.Native.Nat.{◌-◌}
 use native.Mathlib.Omega.{arith}
 use Rattle.sheet_test.proofs.compare.count_places.Goals as goal
 use Rattle.sheet_test.proofs.compare.count_places.Goals.{else-bands-i, then-bands-i}

@@ -1,4 +1,3 @@
-use Prim.Native.Nat.{◌-◌}
 use native.Mathlib.Omega.{arith}
 use Rattle.sheet_test.proofs.words.count_of.Goals as goal
 use Rattle.sheet_test.proofs.words.count_of.Goals.{else-text-i, then-text-i}

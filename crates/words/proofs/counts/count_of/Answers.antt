@@ -1,6 +1,5 @@
 use mathlib.Core.Path.{refl, ◌∙◌}
 use mathlib.Core.Logic.{inl, inr}
-use Prim.Native.Nat.{◌-◌}
 use native.Mathlib.Omega.{arith}
 use Rattle.words.proofs.MetLaws.{digits_more, digits_low, digits_high, digits_end, value_more, value_end, value_passes}
 use Rattle.words.proofs.counts.count_of.Goals as goal
