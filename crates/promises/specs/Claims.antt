@@ -1,5 +1,6 @@
 -- What a caller of settle, shorten and the counts may conclude from their answers and from the buffer after them.
-use Rattle.std.specs.Prelude.{◌≡◌, Bool, true, false, List, [], ◌∷◌, ◌++◌, ◌⊎◌, ◌≢◌, ◌↔◌, ℕ, ◌+◌, ◌*◌, ◌/◌, ◌%◌, ◌≤◌, ◌<◌, eqb, length, take, drop}
+use Rattle.std.specs.Prelude.{◌≡◌, Bool, true, false, List, [], ◌∷◌, ◌++◌, ◌⊎◌, ◌≢◌, ◌↔◌, ℕ, ◌+◌, ◌*◌, ◌/◌, ◌%◌, ◌≤◌, ◌<◌}
+use Rattle.std.specs.Prelude.{eqb, length, take, drop}
 use Rattle.base.specs.Claims.{First}
 use Rattle.sections.specs.Entries.{band_in}
 use Rattle.sections.specs.Claims.{Each}

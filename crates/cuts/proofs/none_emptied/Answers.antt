@@ -10,7 +10,10 @@ pub loop-i-init : goal.loop-i-init
 loop-i-init c = (omega arith, sym (all_zero_lem _))
 
 pub loop-i-preserved : goal.loop-i-preserved
-loop-i-preserved c = (elim c.if-not-holds_one.branch [ then-not-holds_one w ↦ (omega arith, w.all-is ∙ all_fails _ _ (said_no c.holds_one.ensures w.if-not-holds_one.true)) | else-not-holds_one w ↦ (omega arith, w.all-is ∙ all_same _ _ c.loop-i.invariant.1 (said_yes c.holds_one.ensures w.if-not-holds_one.false)) ])
+loop-i-preserved c = (elim c.if-not-holds_one.branch [
+  | then-not-holds_one w ↦ (omega arith, w.all-is ∙ all_fails _ _ (said_no c.holds_one.ensures w.if-not-holds_one.true))
+  | else-not-holds_one w ↦ (omega arith, w.all-is ∙ all_same _ _ c.loop-i.invariant.1 (said_yes c.holds_one.ensures w.if-not-holds_one.false))
+])
 
 pub returns : goal.returns
 unfolding none_emptied

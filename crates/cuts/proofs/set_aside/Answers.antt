@@ -10,7 +10,10 @@ unfolding aside_below
 loop-i-init c = (omega arith, refl)
 
 pub loop-i-preserved : goal.loop-i-preserved
-loop-i-preserved c = (elim c.if-list_length-eq0.branch [ then-list_length-eq0 w ↦ (omega arith, w.aside-is ∙ aside_hit _ _ _ c.loop-i.invariant.1 c.list_length.ensures w.if-list_length-eq0.true) | else-list_length-eq0 w ↦ (omega arith, w.aside-is ∙ aside_miss _ _ _ c.loop-i.invariant.1 c.list_length.ensures w.if-list_length-eq0.false) ])
+loop-i-preserved c = (elim c.if-list_length-eq0.branch [
+  | then-list_length-eq0 w ↦ (omega arith, w.aside-is ∙ aside_hit _ _ _ c.loop-i.invariant.1 c.list_length.ensures w.if-list_length-eq0.true)
+  | else-list_length-eq0 w ↦ (omega arith, w.aside-is ∙ aside_miss _ _ _ c.loop-i.invariant.1 c.list_length.ensures w.if-list_length-eq0.false)
+])
 
 pub returns : goal.returns
 returns c = let e : c.loop-i.i ≡ c.args.n = omega arith in cc

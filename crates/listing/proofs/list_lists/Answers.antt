@@ -20,7 +20,8 @@ answered n bands says ended h = sym says ∙ ended ∙ ap S.Ended h
 paired : (c : In-Paired)
     → PairedLists (label (goal.at.In-Paired c).After-settle_lists-settled) c.args.n c.args.bands c.settle_lists-settled.new.out
 paired c =
-    paired_lists (label (goal.at.In-Paired c).After-settle_lists-settled) _ _ (answered c.args.n c.args.bands c.settle_lists-settled.ensures.value c.in-Ended.is c.in-Paired.is) c.settle_lists-settled.ensures.out_after
+    paired_lists (label (goal.at.In-Paired c).After-settle_lists-settled) _ _
+    (answered c.args.n c.args.bands c.settle_lists-settled.ensures.value c.in-Ended.is c.in-Paired.is) c.settle_lists-settled.ensures.out_after
 
 pub slice_bounds-write_pairing-end : goal.slice_bounds-write_pairing-end
 slice_bounds-write_pairing-end c = sym (paired (goal.at.slice_bounds-write_pairing-end c).In-Paired).size
@@ -36,7 +37,11 @@ returns-in-Refused c =
 
 pub returns-in-None : goal.returns-in-None
 returns-in-None c =
-    rw (text_none (label (goal.at.returns-in-None c).After-settle_lists-settled) _ _ (answered c.args.n c.args.bands c.settle_lists-settled.ensures.value c.in-Ended.is c.in-None.is), ← c.phase_number.ensures) c.write_none.ensures
+    rw (
+      text_none (label (goal.at.returns-in-None c).After-settle_lists-settled) _ _
+          (answered c.args.n c.args.bands c.settle_lists-settled.ensures.value c.in-Ended.is c.in-None.is),
+      ← c.phase_number.ensures,
+    ) c.write_none.ensures
 
 pub returns-in-Paired : goal.returns-in-Paired
 returns-in-Paired c =

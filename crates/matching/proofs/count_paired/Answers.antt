@@ -16,7 +16,10 @@ loop-a-preserved c =
     let at = c.loop-a in
     let m = c.args.pairing.now in
     let p = c.partner.ensures in
-    (elim c.if-partner-ne-ALONE.branch [ then-partner-ne-ALONE w ↦ (omega arith, (omega arith, rw w.joints-is (count_hit at.a (λ a. not (is_alone m a)) at.invariant.1.1 (rw (← p, ne_eqb _ _ w.if-partner-ne-ALONE.true))))) | else-partner-ne-ALONE w ↦ (omega arith, (omega arith, rw w.joints-is (count_miss at.a (λ a. not (is_alone m a)) at.invariant.1.1 (rw (← p, eq-eqb _ _ w.if-partner-ne-ALONE.false))))) ])
+    (elim c.if-partner-ne-ALONE.branch [
+      | then-partner-ne-ALONE w ↦ (omega arith, (omega arith, rw w.joints-is (count_hit at.a (λ a. not (is_alone m a)) at.invariant.1.1 (rw (← p, ne_eqb _ _ w.if-partner-ne-ALONE.true)))))
+      | else-partner-ne-ALONE w ↦ (omega arith, (omega arith, rw w.joints-is (count_miss at.a (λ a. not (is_alone m a)) at.invariant.1.1 (rw (← p, eq-eqb _ _ w.if-partner-ne-ALONE.false)))))
+    ])
 
 pub returns : goal.returns
 returns c = paired_all _ _ c.loop-a.invariant.1.1 (omega arith)

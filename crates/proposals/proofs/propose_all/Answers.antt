@@ -10,7 +10,10 @@ unfolding propose_all
 loop-i-init c = (omega arith, refl)
 
 pub loop-i-preserved : goal.loop-i-preserved
-loop-i-preserved c = (elim c.if-list-i.branch [ then-list-i w ↦ (omega arith, w.bands-is ∙ w.propose.ensures ∙ propose_hit _ _ _ _ _ _ _ c.loop-i.invariant.1 w.if-list-i.true) | else-list-i w ↦ (omega arith, w.bands-is ∙ propose_miss _ _ _ _ _ _ _ c.loop-i.invariant.1 w.if-list-i.false) ])
+loop-i-preserved c = (elim c.if-list-i.branch [
+  | then-list-i w ↦ (omega arith, w.bands-is ∙ w.propose.ensures ∙ propose_hit _ _ _ _ _ _ _ c.loop-i.invariant.1 w.if-list-i.true)
+  | else-list-i w ↦ (omega arith, w.bands-is ∙ propose_miss _ _ _ _ _ _ _ c.loop-i.invariant.1 w.if-list-i.false)
+])
 
 pub returns : goal.returns
 returns c = let e : c.loop-i.i ≡ c.args.n = omega arith in cc

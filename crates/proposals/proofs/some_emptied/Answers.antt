@@ -9,7 +9,10 @@ pub loop-i-init : goal.loop-i-init
 loop-i-init c = (omega arith, sym (any_zero _))
 
 pub loop-i-preserved : goal.loop-i-preserved
-loop-i-preserved c = (elim c.if-emptied.branch [ then-emptied w ↦ (omega arith, w.found-is ∙ any_more _ _ (sym c.emptied.ensures ∙ w.if-emptied.true)) | else-emptied w ↦ (omega arith, w.found-is ∙ any_same _ _ c.loop-i.invariant.1 (sym c.emptied.ensures ∙ w.if-emptied.false)) ])
+loop-i-preserved c = (elim c.if-emptied.branch [
+  | then-emptied w ↦ (omega arith, w.found-is ∙ any_more _ _ (sym c.emptied.ensures ∙ w.if-emptied.true))
+  | else-emptied w ↦ (omega arith, w.found-is ∙ any_same _ _ c.loop-i.invariant.1 (sym c.emptied.ensures ∙ w.if-emptied.false))
+])
 
 pub returns : goal.returns
 unfolding some_emptied

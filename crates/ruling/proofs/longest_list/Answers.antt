@@ -11,7 +11,10 @@ pub loop-x-preserved : goal.loop-x-preserved
 loop-x-preserved c =
     let turn = c.loop-x.invariant.1 in
     let length = c.list_length-length.ensures in
-    (elim c.if-longest-length.branch [ then-longest-length w ↦ (omega arith, argmax_next _ _ turn.0 turn.1 length w.best-is w.longest-is (omega (arith, w.if-longest-length.true))) | else-longest-length w ↦ (omega arith, argmax_same _ _ turn.0 turn.1 length w.best-is w.longest-is (omega (arith, w.if-longest-length.false))) ])
+    (elim c.if-longest-length.branch [
+      | then-longest-length w ↦ (omega arith, argmax_next _ _ turn.0 turn.1 length w.best-is w.longest-is (omega (arith, w.if-longest-length.true)))
+      | else-longest-length w ↦ (omega arith, argmax_same _ _ turn.0 turn.1 length w.best-is w.longest-is (omega (arith, w.if-longest-length.false)))
+    ])
 
 pub returns : goal.returns
 unfolding longest_list

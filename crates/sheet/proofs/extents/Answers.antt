@@ -30,7 +30,8 @@ labels_are : (c : After-read_labels-found)
 labels_are c = rw (← c.wide-n.ensures.value, ← rest_is _ _) c.read_labels-found.ensures
 
 labels_read : (c : In-Read)
-    → let at_n_gt128 = (goal.at.In-Read c).Else-n-gt128 in (labels_fault (joints (sheet at_n_gt128)) (labels_part (sheet at_n_gt128)) ≡ 0) × (c.in-Read.size ≡ label_width * joints (sheet at_n_gt128))
+    → let at_n_gt128 = (goal.at.In-Read c).Else-n-gt128 in
+    (labels_fault (joints (sheet at_n_gt128)) (labels_part (sheet at_n_gt128)) ≡ 0) × (c.in-Read.size ≡ label_width * joints (sheet at_n_gt128))
 labels_read c = section_read _ _ (labels_are (goal.at.In-Read c).After-read_labels-found) c.in-Read.is
 
 -- WHERE THE ENTRIES ARE COUNTED
@@ -94,7 +95,8 @@ pub returns-then-sheet-end : goal.returns-then-sheet-end
 returns-then-sheet-end c =
     let at_n_gt128 = (goal.at.returns-then-sheet-end c).Else-n-gt128 in
     let (good, size) = labels_read (goal.at.returns-then-sheet-end c).In-Read in
-    refused_as c.args.sheet.now _ 1 (cut_short (sheet at_n_gt128) (some at_n_gt128) (few at_n_gt128) good (counted (goal.at.returns-then-sheet-end c).Else-sheet-start) (rw (← count_is (goal.at.returns-then-sheet-end c).After-count_at-m, ← size) c.if-sheet-end.true))
+    refused_as c.args.sheet.now _ 1 (cut_short (sheet at_n_gt128) (some at_n_gt128) (few at_n_gt128) good (counted (goal.at.returns-then-sheet-end c).Else-sheet-start)
+    (rw (← count_is (goal.at.returns-then-sheet-end c).After-count_at-m, ← size) c.if-sheet-end.true))
     (λ z. omega arith)
 
 pub slice_bounds-parents_extent-count : goal.slice_bounds-parents_extent-count

@@ -45,7 +45,8 @@ small c = count_small (sheet c) (λ i. let h = c.type_inv.sheet i in omega arith
 
 -- WHERE THE ENTRIES ARE READ
 entries_are : (c : After-read_entries-listed)
-    → let at_accepted = (goal.at.After-read_entries-listed c).In-Accepted in c.read_entries-listed.result ≡ entries_reading (rank_count (sheet at_accepted)) (joints (sheet at_accepted)) (rankings_part (sheet at_accepted))
+    → let at_accepted = (goal.at.After-read_entries-listed c).In-Accepted in
+    c.read_entries-listed.result ≡ entries_reading (rank_count (sheet at_accepted)) (joints (sheet at_accepted)) (rankings_part (sheet at_accepted))
 entries_are c =
     let at_accepted = (goal.at.After-read_entries-listed c).In-Accepted in
     rw (← part_is at_accepted, ← (read at_accepted).m_entries, ← (read at_accepted).n_joints) c.read_entries-listed.ensures
@@ -62,7 +63,8 @@ fits c =
 
 -- WHERE THE PARENTS ARE READ
 third_is : (c : In-Read)
-    → let at_accepted = (goal.at.In-Read c).In-Accepted in take (length (sheet at_accepted) - (parts at_accepted).parents) (drop (parts at_accepted).parents (sheet at_accepted)) ≡ third (sheet at_accepted)
+    → let at_accepted = (goal.at.In-Read c).In-Accepted in
+    take (length (sheet at_accepted) - (parts at_accepted).parents) (drop (parts at_accepted).parents (sheet at_accepted)) ≡ third (sheet at_accepted)
 third_is c =
     let at_accepted = (goal.at.In-Read c).In-Accepted in
     rest_is (parts at_accepted).parents (sheet at_accepted) ∙ ap (λ (j : ℕ). drop j (sheet at_accepted)) (read at_accepted).third_start
@@ -72,7 +74,8 @@ parents_are c =
     rw (← third_is (goal.at.After-read_third-third c).In-Read, ← (read (goal.at.After-read_third-third c).In-Accepted).n_joints) c.read_third-third.ensures
 
 -- what they decide
-decided : (c : In-Read) (k : ℕ) → let at_accepted = (goal.at.In-Read c).In-Accepted in parents_fault (joints (sheet at_accepted)) (third (sheet at_accepted)) ≡ k → sheet_fault (sheet at_accepted) ≡ k
+decided : (c : In-Read) (k : ℕ) → let at_accepted = (goal.at.In-Read c).In-Accepted in
+    parents_fault (joints (sheet at_accepted)) (third (sheet at_accepted)) ≡ k → sheet_fault (sheet at_accepted) ≡ k
 decided c =
     let at_accepted = (goal.at.In-Read c).In-Accepted in
     by_parents (sheet at_accepted) (read at_accepted).faultless (clean c)
@@ -131,7 +134,8 @@ returns-in_default-third c =
 pub fill-requires : goal.fill-requires
 fill-requires c =
     let at_accepted = (goal.at.fill-requires c).In-Accepted in
-    subst (λ (l : List ℕ). Inside (parts at_accepted).entries l) (sym (part_is at_accepted)) (subst (λ (m : ℕ). Inside m (rankings_part (sheet at_accepted))) (sym (read at_accepted).m_entries) (fits (goal.at.fill-requires c).In-Read))
+    subst (λ (l : List ℕ). Inside (parts at_accepted).entries l) (sym (part_is at_accepted)) (subst (λ (m : ℕ). Inside m (rankings_part (sheet at_accepted))) (sym
+    (read at_accepted).m_entries) (fits (goal.at.fill-requires c).In-Read))
 
 pub returns : goal.returns
 returns c =

@@ -15,7 +15,10 @@ pub loop-b-preserved : goal.loop-b-preserved
 loop-b-preserved c =
     let here = sym c.is_stray.ensures in
     let so_far = c.loop-b.invariant.1.1 in
-    (elim c.if-is_stray.branch [ then-is_stray w ↦ (omega arith, (omega arith, w.pairs-is ∙ count_hit _ _ so_far (here ∙ w.if-is_stray.true))) | else-is_stray w ↦ (omega arith, (omega arith, w.pairs-is ∙ count_miss _ _ so_far (here ∙ w.if-is_stray.false))) ])
+    (elim c.if-is_stray.branch [
+      | then-is_stray w ↦ (omega arith, (omega arith, w.pairs-is ∙ count_hit _ _ so_far (here ∙ w.if-is_stray.true)))
+      | else-is_stray w ↦ (omega arith, (omega arith, w.pairs-is ∙ count_miss _ _ so_far (here ∙ w.if-is_stray.false)))
+    ])
 
 pub returns : goal.returns
 returns c =

@@ -20,7 +20,10 @@ loop-b-preserved c =
     let at_loop_b = (goal.at.loop-b-preserved c).In-loop-b in
     let here = sym c.is_stray.ensures in
     let so_far = c.loop-b.invariant in
-    (elim c.if-is_stray.branch [ then-is_stray w ↦ rw w.low-is (search_finds _ _ _ _ so_far (ahead at_loop_b) (here ∙ w.if-is_stray.true)) | else-is_stray w ↦ rw w.low-is (search_goes_on _ _ _ _ so_far (ahead at_loop_b) (here ∙ w.if-is_stray.false)) ])
+    (elim c.if-is_stray.branch [
+      | then-is_stray w ↦ rw w.low-is (search_finds _ _ _ _ so_far (ahead at_loop_b) (here ∙ w.if-is_stray.true))
+      | else-is_stray w ↦ rw w.low-is (search_goes_on _ _ _ _ so_far (ahead at_loop_b) (here ∙ w.if-is_stray.false))
+    ])
 
 pub returns : goal.returns
 returns c =

@@ -26,7 +26,8 @@ act-state-requires c = c.loop-i.invariant.0
 pub returns-then-next-ne0 : goal.returns-then-next-ne0
 returns-then-next-ne0 c =
     let i = c.loop-i.invariant in
-    let stops = followed_stops _ _ (bytes (goal.at.returns-then-next-ne0 c).At-loop-i) _ (two_left (goal.at.returns-then-next-ne0 c).After-act-state) _ _ _ c.act-state.result c.act-state.ensures.result_after c.if-next-ne0.true in
+    let stops = followed_stops _ _ (bytes (goal.at.returns-then-next-ne0 c).At-loop-i) _ (two_left
+    (goal.at.returns-then-next-ne0 c).After-act-state) _ _ _ c.act-state.result c.act-state.ensures.result_after c.if-next-ne0.true in
     record { result_after = from_first _ _ _ (c.begin_marks-state.ensures.result_value _ _) (stops ∙ i.1.1.1.1.1); lawful = λ z. absurd (c.if-next-ne0.true z) }
 
 pub overflow_add-i : goal.overflow_add-i
@@ -37,7 +38,20 @@ loop-i-preserved c =
     let i = c.loop-i.invariant in
     let z = c.if-next-ne0.false in (
       c.act-state.ensures.all_lawful z,
-      (omega arith, (i.1.1.0, (i.1.1.1.0, (i.1.1.1.1.0, followed_on _ _ (bytes (goal.at.loop-i-preserved c).At-loop-i) _ (two_left (goal.at.loop-i-preserved c).After-act-state) _ _ _ c.act-state.result c.act-state.ensures.result_after z ∙ i.1.1.1.1.1)))),
+      (
+        omega arith,
+        (
+          i.1.1.0,
+          (
+            i.1.1.1.0,
+            (
+              i.1.1.1.1.0,
+              followed_on _ _ (bytes (goal.at.loop-i-preserved c).At-loop-i) _ (two_left
+                  (goal.at.loop-i-preserved c).After-act-state) _ _ _ c.act-state.result c.act-state.ensures.result_after z ∙ i.1.1.1.1.1,
+            ),
+          ),
+        ),
+      ),
     )
 
 pub returns : goal.returns

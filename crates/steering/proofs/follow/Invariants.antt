@@ -13,7 +13,8 @@ invariant-loop-i l =
     × ((2 * l.count ≤ length l.choices)
     × ((l.count < 2 ^ 63)
     × ((length l.choices ≤ 2 * l.count + 1)
-    × (follows l.whole l.n (marked_at l.lists l.saved l.state) (records_of (drop (2 * l.i) l.choices)) ≡ follows l.whole l.n (marked_at l.initial.lists l.initial.saved l.initial.state) (records_of l.choices))))))
+    × (follows l.whole l.n (marked_at l.lists l.saved l.state) (records_of (drop (2 * l.i) l.choices)) ≡ follows l.whole l.n
+    (marked_at l.initial.lists l.initial.saved l.initial.state) (records_of l.choices))))))
 
 abbrev pub decreases-loop-i : goal.decreases-loop-i
 decreases-loop-i l = l.count - l.i

@@ -19,11 +19,17 @@ ten k = cond (leb 10 k) (digit (k / 10 % 10) ∷ []) []
 
 hundreds : (c : Joined-k-ge100) → Wrote c.args.out.now c.args.at (hundred c.args.k) c.if-k-ge100.out c.if-k-ge100.next
 hundreds c =
-    (elim c.if-k-ge100.branch [ then-k-ge100 w ↦ wrote_taken _ (le-leb _ _ w.if-k-ge100.true) w.write_digit-next.ensures w.out-is w.next-is | else-k-ge100 w ↦ wrote_left _ _ (lt-leb _ _ w.if-k-ge100.false) w.out-is w.next-is ])
+    (elim c.if-k-ge100.branch [
+      | then-k-ge100 w ↦ wrote_taken _ (le-leb _ _ w.if-k-ge100.true) w.write_digit-next.ensures w.out-is w.next-is
+      | else-k-ge100 w ↦ wrote_left _ _ (lt-leb _ _ w.if-k-ge100.false) w.out-is w.next-is
+    ])
 
 tens : (c : Joined-k-ge10) → Wrote c.if-k-ge100.out c.if-k-ge100.next (ten c.args.k) c.if-k-ge10.out c.if-k-ge10.next
 tens c =
-    (elim c.if-k-ge10.branch [ then-k-ge10 w ↦ wrote_taken _ (le-leb _ _ w.if-k-ge10.true) w.write_digit-next-then-k-ge10.ensures w.out-is w.next-is | else-k-ge10 w ↦ wrote_left _ _ (lt-leb _ _ w.if-k-ge10.false) w.out-is w.next-is ])
+    (elim c.if-k-ge10.branch [
+      | then-k-ge10 w ↦ wrote_taken _ (le-leb _ _ w.if-k-ge10.true) w.write_digit-next-then-k-ge10.ensures w.out-is w.next-is
+      | else-k-ge10 w ↦ wrote_left _ _ (lt-leb _ _ w.if-k-ge10.false) w.out-is w.next-is
+    ])
 
 pub write_digit-next-requires-then-k-ge10 : goal.write_digit-next-requires-then-k-ge10
 write_digit-next-requires-then-k-ge10 c =

@@ -25,7 +25,10 @@ written : (c : Joined-is_alone)
 unfolding alone_part
 written c =
     let said = sym c.is_alone.ensures in
-    (elim c.if-is_alone.branch [ then-is_alone w ↦ wrote_taken _ (said ∙ w.if-is_alone.true) (rw w.label_of.ensures at w.write_label_line-next.ensures) w.out-is w.next-is | else-is_alone w ↦ wrote_left _ _ (said ∙ w.if-is_alone.false) w.out-is w.next-is ])
+    (elim c.if-is_alone.branch [
+      | then-is_alone w ↦ wrote_taken _ (said ∙ w.if-is_alone.true) (rw w.label_of.ensures at w.write_label_line-next.ensures) w.out-is w.next-is
+      | else-is_alone w ↦ wrote_left _ _ (said ∙ w.if-is_alone.false) w.out-is w.next-is
+    ])
 
 pub loop-i-init : goal.loop-i-init
 loop-i-init c = (omega arith, joined_none _ _ _)

@@ -27,7 +27,11 @@ written : (c : Joined-is_lower)
 unfolding pair_part
 written c =
     let said = sym c.is_lower.ensures in
-    (elim c.if-is_lower.branch [ then-is_lower w ↦ wrote_taken _ (said ∙ w.if-is_lower.true) (rw (w.label_of-first.ensures, w.label_of-second.ensures, w.partner.ensures) at w.write_pair_line-next.ensures) w.out-is w.next-is | else-is_lower w ↦ wrote_left _ _ (said ∙ w.if-is_lower.false) w.out-is w.next-is ])
+    (elim c.if-is_lower.branch [
+      | then-is_lower w ↦ wrote_taken _ (said ∙ w.if-is_lower.true)
+          (rw (w.label_of-first.ensures, w.label_of-second.ensures, w.partner.ensures) at w.write_pair_line-next.ensures) w.out-is w.next-is
+      | else-is_lower w ↦ wrote_left _ _ (said ∙ w.if-is_lower.false) w.out-is w.next-is
+    ])
 
 pub loop-i-init : goal.loop-i-init
 loop-i-init c = (omega arith, joined_none _ _ _)

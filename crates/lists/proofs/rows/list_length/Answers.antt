@@ -9,7 +9,10 @@ pub loop-i-init : goal.loop-i-init
 loop-i-init c = (omega arith, (omega arith, sym (count_zero _)))
 
 pub loop-i-preserved : goal.loop-i-preserved
-loop-i-preserved c = (elim c.if-row-i-ne0.branch [ then-row-i-ne0 w ↦ (omega arith, (omega arith, w.size-is ∙ count_hit _ _ c.loop-i.invariant.1.1 (listed _ w.if-row-i-ne0.true))) | else-row-i-ne0 w ↦ (omega arith, (omega arith, w.size-is ∙ count_miss _ _ c.loop-i.invariant.1.1 (unlisted _ w.if-row-i-ne0.false))) ])
+loop-i-preserved c = (elim c.if-row-i-ne0.branch [
+  | then-row-i-ne0 w ↦ (omega arith, (omega arith, w.size-is ∙ count_hit _ _ c.loop-i.invariant.1.1 (listed _ w.if-row-i-ne0.true)))
+  | else-row-i-ne0 w ↦ (omega arith, (omega arith, w.size-is ∙ count_miss _ _ c.loop-i.invariant.1.1 (unlisted _ w.if-row-i-ne0.false)))
+])
 
 pub returns : goal.returns
 returns c = let e : c.loop-i.i ≡ c.args.n = omega arith in cc

@@ -17,8 +17,14 @@ loop-i-preserved c =
     let l = c.args.row.now in (
       omega arith,
       (
-        elim c.if-row-i-ne0.branch [ then-row-i-ne0 w ↦ w.listed-is ∙ listed_hit _ l w.if-row-i-ne0.true | else-row-i-ne0 w ↦ w.listed-is ∙ listed_miss _ l c.loop-i.invariant.1.0 w.if-row-i-ne0.false ],
-        λ h. (elim c.if-row-i.branch [ then-row-i w ↦ w.reached-is ∙ any_more _ _ (facts_stands _ _ h w.if-row-i.true) | else-row-i w ↦ w.reached-is ∙ any_same _ _ (c.loop-i.invariant.1.1 h) (stands_not _ _ w.if-row-i.false) ]),
+        elim c.if-row-i-ne0.branch [
+          | then-row-i-ne0 w ↦ w.listed-is ∙ listed_hit _ l w.if-row-i-ne0.true
+          | else-row-i-ne0 w ↦ w.listed-is ∙ listed_miss _ l c.loop-i.invariant.1.0 w.if-row-i-ne0.false
+        ],
+        λ h. (elim c.if-row-i.branch [
+          | then-row-i w ↦ w.reached-is ∙ any_more _ _ (facts_stands _ _ h w.if-row-i.true)
+          | else-row-i w ↦ w.reached-is ∙ any_same _ _ (c.loop-i.invariant.1.1 h) (stands_not _ _ w.if-row-i.false)
+        ]),
       ),
     )
 

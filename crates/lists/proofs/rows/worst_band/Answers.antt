@@ -10,7 +10,10 @@ unfolding worst_band
 loop-i-init c = (omega arith, refl)
 
 pub loop-i-preserved : goal.loop-i-preserved
-loop-i-preserved c = (elim c.if-worst-row.branch [ then-worst-row w ↦ (omega arith, w.worst-is ∙ worst_hit _ _ c.loop-i.invariant.1 w.if-worst-row.true) | else-worst-row w ↦ (omega arith, w.worst-is ∙ worst_miss _ _ c.loop-i.invariant.1 w.if-worst-row.false) ])
+loop-i-preserved c = (elim c.if-worst-row.branch [
+  | then-worst-row w ↦ (omega arith, w.worst-is ∙ worst_hit _ _ c.loop-i.invariant.1 w.if-worst-row.true)
+  | else-worst-row w ↦ (omega arith, w.worst-is ∙ worst_miss _ _ c.loop-i.invariant.1 w.if-worst-row.false)
+])
 
 pub returns : goal.returns
 returns c = let e : c.loop-i.i ≡ c.args.n = omega arith in cc

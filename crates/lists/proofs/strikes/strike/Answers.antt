@@ -10,7 +10,10 @@ unfolding strike_if
 loop-i-init c = (omega arith, refl)
 
 pub loop-i-preserved : goal.loop-i-preserved
-loop-i-preserved c = (elim c.if-hit.branch [ then-hit w ↦ (omega arith, w.bands-is ∙ w.strike_pair.ensures ∙ strike_hit _ _ _ _ c.loop-i.invariant.1 (sym c.hit.ensures ∙ w.if-hit.true)) | else-hit w ↦ (omega arith, w.bands-is ∙ strike_miss _ _ _ _ c.loop-i.invariant.1 (sym c.hit.ensures ∙ w.if-hit.false)) ])
+loop-i-preserved c = (elim c.if-hit.branch [
+  | then-hit w ↦ (omega arith, w.bands-is ∙ w.strike_pair.ensures ∙ strike_hit _ _ _ _ c.loop-i.invariant.1 (sym c.hit.ensures ∙ w.if-hit.true))
+  | else-hit w ↦ (omega arith, w.bands-is ∙ strike_miss _ _ _ _ c.loop-i.invariant.1 (sym c.hit.ensures ∙ w.if-hit.false))
+])
 
 pub returns : goal.returns
 returns c = let e : c.loop-i.i ≡ c.args.n = omega arith in rw (← e) c.loop-i.invariant.1
