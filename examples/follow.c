@@ -1,7 +1,7 @@
 /* Tells which pairs of a pairing follow the skeleton:
- *     rt staticlib pairing
- *     gcc -Iinclude examples/follow.c target/staticlib/libpairing.a -o target/follow
- *     target/follow examples/thumb.sheet examples/thumb-to-toe.pairing
+ *     (cd crates/pairing && rt lib)
+ *     gcc -Iinclude examples/follow.c crates/pairing/out/libpairing.a -o follow
+ *     ./follow examples/thumb.sheet examples/thumb-to-toe.pairing
  * Two pairs mirror a thumb to a toe: it prints "2 pairs do not follow, thumbR toeL first". With the fox's sheet and pairing
  * it prints "all pairs follow". */
 #include "mirror.h"

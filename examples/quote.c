@@ -1,7 +1,7 @@
 /* Quotes a sheet by a tariff, with a rebate in hundredths of a percent:
- *     rt staticlib pairing
- *     gcc -Iinclude examples/quote.c target/staticlib/libpairing.a -o target/quote
- *     target/quote examples/fox.sheet examples/shop.tariff 250
+ *     (cd crates/pairing && rt lib)
+ *     gcc -Iinclude examples/quote.c crates/pairing/out/libpairing.a -o quote
+ *     ./quote examples/fox.sheet examples/shop.tariff 250
  * The fox has ten pairs, three at 500 cents and seven at 300, and 2.5 % off: it prints "payable 3510". */
 #include "mirror.h"
 

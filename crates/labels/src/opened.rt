@@ -4,7 +4,7 @@ ghost use Rattle.sections.specs.Labels.{label_at};
 
 use sections::label_at;
 
-// The proof of a function over it is by hand, so these are few; every other caller has `label_of`.
+// Every caller outside has `label_of`.
 #[derive(Clone, Copy)]
 pub struct Sheet<'a> {
     pub bytes: &'a [u8],

@@ -75,7 +75,7 @@ pub record Settled (n : ℕ) (t : Square) (settle shorten : List ℕ → Outcome
   -- without choices nothing is refused
   pub no_choices : ((settle []).refusal ≡ 0) × ((shorten []).refusal ≡ 0)
 
--- For every accepted sheet; its square lists each of the sheet's listed pairs twice, so few-cuts says that there are no more cuts than
+-- For every accepted sheet; its square lists each of the sheet's listed pairs twice, so few_cuts says that there are no more cuts than
 -- listed pairs, which are at most half the entries.
 abbrev pub Demands : Type 0
 Demands = (s : List ℕ) → sheet_fault s ≡ 0 → Settled (joints s) (square_of s) (settles (joints s) (square_of s)) (shortens (joints s) (square_of s))

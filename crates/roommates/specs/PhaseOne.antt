@@ -89,7 +89,7 @@ unfoldable pub run_out : ℕ → ℕ → Work → Work
 run_out zero n w = w
 run_out (suc f) n w = cond (eqb (lowest_waiting n w) n) w (run_out f n (step n w (lowest_waiting n w)))
 
--- More steps than there can be: each makes a proposal, and there are at most n × n (Theorem few-proposals).
+-- More steps than there can be: each makes a proposal, and there are at most n × n (Theorem few_proposals).
 abbrev pub fuel : ℕ → ℕ
 fuel n = suc (n * n)
 
