@@ -2,7 +2,6 @@
 use mathlib.Core.Path.{◌≡◌, refl, sym, ◌∙◌, ap, subst, fun_ext}
 use mathlib.Core.Bool.{Bool, true, false, cond}
 use mathlib.Core.List.{List, []}
-use mathlib.Core.Logic.{◌≢◌}
 use Prim.Native.Nat.{ℕ, zero, suc, ◌≤◌, ◌<◌}
 use native.Mathlib.Omega.{arith}
 use lib.ListN.{length, get_or, set, replicate, length-set}
@@ -155,10 +154,6 @@ module _ (t : Square) (saved : List Square) (s : MarkedPlace) where
             eight_saved = all.eight_saved;
             eight_marks = all.eight_marks;
           }
-
--- a kind that is none of three
-pub above : (k : ℕ) → k ≢ 0 → k ≢ 1 → k ≢ 2 → 3 ≤ k
-above k a b c = omega arith
 
 -- BY KIND, with its number as the code reads it
 module _ (whole : Bool) (n : ℕ) (s : R.Marked) (r : Record) {x : ℕ} (is : x ≡ r.number) {a : R.Acted} where

@@ -56,7 +56,7 @@ module _ {s : List ℕ} {k : ℕ} {starts : List ℕ} (names : Writable s k star
       → Wrote l p (first_labels (names_at s k starts) (i + 1)) l₂ p₂
   labels_more i h u v = joined_wrote i _ u (rw (name_at names.placed i h) v)
 
-  pub labels_all : labels_for (names_at s k starts) ≡ first_labels (names_at s k starts) k
+  labels_all : labels_for (names_at s k starts) ≡ first_labels (names_at s k starts) k
   labels_all = rw (names_length names.placed) refl
 
   pub labels_fit : {l l₁ l₂ : List ℕ} {p₁ p₂ b : ℕ} → written_size k ≤ length l

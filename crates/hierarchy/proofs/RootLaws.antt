@@ -70,7 +70,7 @@ module _ {s : List ℕ} {first : ℕ} {js₀ : Joints} {place k : ℕ} {starts p
     was_read : (f : ℕ) → length s - place ≤ f → WasRead s place spot starts₁ parents₁ (root_block (suc f) (words_at s place) (gathered s k starts parents))
     was_read f l = rw is at (a (suc f) (omega arith))
 
-    pub roots_ready : Ready s spot.at spot.joints starts₁ parents₁
+    roots_ready : Ready s spot.at spot.joints starts₁ parents₁
     roots_ready = (was_read (length s) (omega arith)).ready
 
     pub roots_ended : ends (words_at s spot.at) ≡ true → Answered s first (Read spot) starts₁ parents₁ (λ f. roots f (words_at s first) js₀)

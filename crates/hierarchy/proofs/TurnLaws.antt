@@ -16,7 +16,7 @@ use Rattle.headings.specs.declared.Child.{Child}
 use Rattle.headings.specs.declared.Child.TheVariants.{Close, End, Joint, Other}
 use Rattle.headings.specs.Headings.{site, child_of}
 use Rattle.hierarchy.specs.Hierarchy.{Joints, Met, broken, behind, and_then, block, child, children}
-use Rattle.hierarchy.specs.Gathered.{gathered, Ready, WasRead, Answers, Answered}
+use Rattle.hierarchy.specs.Gathered.{gathered, WasRead, Answers, Answered}
 use Rattle.hierarchy.proofs.Growth.{children_grows, then_fault}
 use Rattle.hierarchy.proofs.BlockLaws.{broken_fault}
 use Rattle.hierarchy.proofs.Going.{Going, answered, goes_on}
@@ -107,9 +107,6 @@ module _ (deeper own : ℕ) {s : List ℕ} {first : ℕ} {js₀ : Joints} {place
       joint_is : (deeper ≡ 0 → ⊥) → (f : ℕ)
           → children (suc f) deeper own (words_at s place) js ≡ and_then (block (children f (deeper - 1)) own (words_at s end) js) (children f deeper own)
       joint_is some-depth f = turn_is e (λ z. unlike cc) f ∙ nested (children f) deeper own (words_at s end) js some-depth
-
-      pub block_at_ready : Ready s end k starts parents
-      block_at_ready = record { inside = next.word.within; placed = going.ready.placed; room = going.ready.room; good = going.ready.good }
 
       module _ (some-depth : deeper ≡ 0 → ⊥) (starts₁ parents₁ : List ℕ) where
         pub turn_refused : (r : Progress) (j : ℕ) → r ≡ Refused j → Answered s end r starts₁ parents₁ (λ f. block (children f (deeper - 1)) own (words_at s end) js)
