@@ -9,5 +9,6 @@ pub mod Lowest
 pub mod Argmax
 pub mod Joined
 pub mod Faults
+pub mod Chains
 pub mod Places
 pub mod Tables

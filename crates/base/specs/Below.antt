@@ -1,5 +1,5 @@
 -- The numbers below n: does any pass a test, do all, how many, which is the lowest; sums and lists over them; where a function is greatest.
-use Rattle.std.specs.Prelude.{Bool, true, false, ◌&&◌, ◌||◌, cond, List, [], ◌++◌, ℕ, zero, suc, ◌+◌, leb}
+use Rattle.std.specs.Prelude.{Bool, true, false, ◌&&◌, ◌||◌, cond, List, [], ◌++◌, Option, Some, None, ℕ, zero, suc, ◌+◌, leb, ltb}
 
 unfoldable pub any_below : ℕ → (ℕ → Bool) → Bool
 any_below zero test = false
@@ -26,6 +26,10 @@ lowest_from (suc f) i test =
 
 abbrev pub lowest : ℕ → (ℕ → Bool) → ℕ
 lowest n test = lowest_from n 0 test
+
+-- .. if one does
+abbrev pub first_below : ℕ → (ℕ → Bool) → Option ℕ
+first_below n test = let low = lowest n test in cond (ltb low n) (Some low) None
 
 -- the number below n at which f is greatest, and among equals the highest; 0 where n is 0
 unfoldable pub argmax : ℕ → (ℕ → ℕ) → ℕ
