@@ -1,0 +1,2 @@
+-- The refusals' numbers.
+pub mod Numbers
