@@ -2,12 +2,14 @@
 #![tactic(auto)]
 
 mod entry_section;
+mod joints;
 mod label_section;
 
 ghost use Rattle.std.specs.Prelude.{◌≡◌};
 ghost use Rattle.sections.specs.Readings.{number_of};
 
 pub use entry_section::{entry_in, read_entries};
+pub use joints::Joints;
 pub use label_section::{label_at, read_labels, visible_run};
 
 // The bytes of a label and of an entry.
