@@ -1,5 +1,5 @@
 -- What chains of iterators over numbers and slices tell, in the words of `Below`: each premise is what `search (rules, ranges)` finds.
-use Rattle.std.proofs.Common.{◌≡◌, ℕ, zero, suc, ◌<◌, ◌≤◌, Bool, true, false, refl, sym, ◌∙◌, List, length, get_or, take, count_by, Option, Some, None, arith, add-one}
+use Rattle.std.proofs.Common.{◌≡◌, ℕ, zero, suc, ◌<◌, ◌≤◌, Bool, true, false, refl, sym, ◌∙◌, List, length, get_or, take, count_by, Option, Some, None, IfSome, arith, add-one}
 use borrow.Author.Tests.{lt-ltb, le-ltb}
 use Rattle.std.proofs.lemmas.List.Sums.{count_by_more_yes, count_by_more_no}
 use Rattle.base.specs.Below.{any_below, all_below, count_below, lowest, first_below}
@@ -38,6 +38,19 @@ module _ (n : ℕ) (test : ℕ → Bool) where
       let e : lowest n test ≡ i =
       case (lt_ge (lowest n test) i) (λ m. absurd (never _ (lowest_passes n test l) (before i refl (lowest n test) m))) (λ g. omega arith) in
       rw (e, lt-ltb i n (inside i refl)) refl
+
+-- .. for a test that the search does not look into: by what the chain's run had at each place, `c.any.ensures.runs.0.at` and the like
+seen : {b : Bool} (test : ℕ → Bool) (f : Option ℕ) (j : ℕ) → f ≡ Some j → IfSome f (λ x. test x ≡ b) → test j ≡ b
+seen test f j e h = rw e at h
+
+module _ (n : ℕ) (test : ℕ → Bool) (at : ℕ → Option ℕ) where
+  pub any_seen : (r : Bool) → (r ≡ true → (j : ℕ) × (j < n) × (test j ≡ true)) → (r ≡ false → (j : ℕ) → j < n → at j ≡ Some j)
+      → (r ≡ false → (j : ℕ) → j < n → IfSome (at j) (λ x. test x ≡ false)) → r ≡ any_below n test
+  any_seen r hit at_place fails = any_told n test r hit (λ e j l. seen test (at j) j (at_place e j l) (fails e j l))
+
+  pub all_seen : (r : Bool) → (r ≡ true → (j : ℕ) → j < n → at j ≡ Some j) → (r ≡ true → (j : ℕ) → j < n → IfSome (at j) (λ x. test x ≡ true))
+      → (r ≡ false → (j : ℕ) × (j < n) × (test j ≡ false)) → r ≡ all_below n test
+  all_seen r at_place passes miss = all_told n test r (λ e j l. seen test (at j) j (at_place e j l) (passes e j l)) miss
 
 -- a count over the first n of a slice
 pub count_taken : (n : ℕ) (p : ℕ → Bool) (l : List ℕ) → n ≤ length l → count_by p (take n l) ≡ count_below n (λ b. p (get_or l b 0))

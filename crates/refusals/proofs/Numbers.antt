@@ -1,5 +1,5 @@
 -- Laws of the refusals' numbers.
-use Rattle.std.proofs.Common.{◌≡◌, ℕ, zero, suc, ◌+◌, ◌≤◌, ◌⊎◌, List, [], ◌∷◌, Option, Some, None, Ok, Err, refl, sym, ap, ◌∙◌, arith, rules, get_or}
+use Rattle.std.proofs.Common.{◌≡◌, ◌≢◌, ℕ, zero, suc, ◌+◌, ◌≤◌, ◌<◌, ◌⊎◌, inl, inr, List, [], ◌∷◌, Option, Some, None, Result, Ok, Err, refl, sym, ap, ◌∙◌, arith, rules, get_or}
 use Rattle.base.proofs.Cases.{case}
 use Rattle.refusals.specs.Numbers.{number_of, by_number, refusal_of, unless, answered, fault_of, fault_in}
 use Rattle.refusals.specs.Claims.{NumberedOnce}
@@ -92,9 +92,37 @@ placed_at i (Some r ∷ rows) (suc k) p e = omega (arith, placed_at (suc i) rows
 pub refusal_is : (k : ℕ) {r : Refusal} → refusal_of k ≡ Some r → number_of r ≡ k
 refusal_is k e = omega (arith, placed_at 0 by_number k (search rules) e)
 
+-- a place of the table without a refusal, from place i on
+abbrev Gap : ℕ → Type 0
+Gap k = (k ≡ 0) ⊎ ((k ≡ 7) ⊎ (20 < k))
+
+abbrev Gapped : ℕ → List (Option Refusal) → Type 0
+Gapped i [] = 20 < i
+Gapped i (None ∷ rows) = Gap i × Gapped (suc i) rows
+Gapped i (Some r ∷ rows) = Gapped (suc i) rows
+
+gap_at : (i : ℕ) (rows : List (Option Refusal)) (k : ℕ) → Gapped i rows → get_or rows k None ≡ None → Gap (i + k)
+gap_at i [] k p e = inr (inr (omega arith))
+gap_at i (None ∷ rows) zero p e = case p.0 (λ z. inl (omega arith)) (λ o. case o (λ z. inr (inl (omega arith))) (λ l. inr (inr (omega arith))))
+gap_at i (None ∷ rows) (suc k) p e =
+    case (gap_at (suc i) rows k p.1 e) (λ z. inl (omega arith)) (λ o. case o (λ z. inr (inl (omega arith))) (λ l. inr (inr (omega arith))))
+gap_at i (Some r ∷ rows) zero p e = search rules
+gap_at i (Some r ∷ rows) (suc k) p e =
+    case (gap_at (suc i) rows k p e) (λ z. inl (omega arith)) (λ o. case o (λ z. inr (inl (omega arith))) (λ l. inr (inr (omega arith))))
+
 -- WHAT IS ANSWERED, for a fault that is 0 or the number of a refusal
 abbrev pub IsFault : ℕ → Type 0
 IsFault k = (k ≡ 0) ⊎ ((r : Refusal) × (number_of r ≡ k))
+
+pub is_fault : (k : ℕ) → k ≤ 20 → k ≢ 7 → IsFault k
+is_fault k most other = go (refusal_of k) refl
+  where
+    go : (f : Option Refusal) → refusal_of k ≡ f → IsFault k
+    go None e =
+        case (gap_at 0 by_number k (inl refl, (inr (inl refl), omega arith)) e)
+        (λ z. inl (omega arith))
+        (λ o. case o (λ z. absurd (other (omega arith))) (λ l. absurd (omega arith)))
+    go (Some r) e = inr (r, refusal_is k e)
 
 pub fault_back : {k : ℕ} → IsFault k → fault_of (refusal_of k) ≡ k
 fault_back {k} h = case h (λ z. rw z refl) (λ s. rw (← s.1, refusal_back s.0) refl)
@@ -130,9 +158,17 @@ module _ {A : Type 0} (value : A) (k : ℕ) where
   pub refusal_answered : (r : Refusal) → answered k value ≡ Err r → number_of r ≡ k
   refusal_answered r e = refusal_is k (unless_refusal value (refusal_of k) r e)
 
+  pub some_answered : (r : Refusal) → answered k value ≡ Err r → k ≢ 0
+  some_answered r e z = omega (arith, refusal_answered r e, number_some r)
+
   pub fault_answered : IsFault k → fault_in (answered k value) ≡ k
   fault_answered h = fault_unless value (refusal_of k) ∙ fault_back h
 
   -- it is answered in place of any other value too
   pub refused_alike : {B : Type 0} (other : B) (r : Refusal) → answered k value ≡ Err r → Err r ≡ answered k other
   refused_alike other r e = answered_refused other k r (refusal_answered r e)
+
+  -- by `?`: an answer of another value
+  pub refused_on : {B : Type 0} (other : B) (r : Result A Refusal) (s : Result B Refusal) (e : Refusal) → r ≡ answered k value → r ≡ Err e → s ≡ Err e
+      → s ≡ answered k other
+  refused_on other r s e from here there = there ∙ refused_alike other e (sym from ∙ here)
