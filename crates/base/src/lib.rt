@@ -1,12 +1,2 @@
-// General code that every crate may use.
+// General logic is in specs/, and its laws in proofs/; there is no code.
 #![tactic(auto)]
-
-ghost use Rattle.std.specs.Prelude.{◌≡◌, ◌<◌};
-
-// A byte as a number that sums and products fit.
-pub fn wide(x: u8) -> usize
-    ensures value { result ≡ x }
-    ensures upper_bound { result < 256 }
-{
-    x as usize
-}

@@ -3,7 +3,7 @@ use mathlib.Core.Path.{◌≡◌, refl}
 use mathlib.Core.Bool.{true, false≢true}
 use mathlib.Core.Logic.{◌⊎◌, inl, inr, ◌↔◌}
 use mathlib.Core.List.{List}
-use mathlib.Core.Option.{Option, none, some}
+use Rattle.std.specs.Prelude.{Option, Some, None}
 use Prim.Native.Nat.{ℕ, ◌≤◌, ◌<◌}
 use native.Mathlib.Omega.{arith}
 use lib.ListN.{length}
@@ -18,9 +18,9 @@ use Rattle.base.proofs.Tests.{and_true}
 use Rattle.matching.proofs.MatchingTest.{is_matching_means}
 use Rattle.blocking.proofs.LowestPair.{blocking_pair_none}
 
-none_is : (o : Option ℕ) → is_none o ≡ true → o ≡ none
-none_is none h = refl
-none_is (some k) h = absurd (false≢true h)
+none_is : (o : Option ℕ) → is_none o ≡ true → o ≡ None
+none_is None h = refl
+none_is (Some k) h = absurd (false≢true h)
 
 module _ (n : ℕ) (band : ℕ → ℕ → ℕ) (partner : ℕ → ℕ) (few : n ≤ 128) where
   -- in a matching, a joint welcomes another or strictly prefers its partner
@@ -73,7 +73,7 @@ module _ (n : ℕ) (band : ℕ → ℕ → ℕ) (partner : ℕ → ℕ) (few : n
       (λ r. case r (not_both a b h.wants) (not_both b a h.wanted))
 
 pub super_stable_parts : (n : ℕ) (t : List (List ℕ)) (m : List ℕ)
-    → is_super_stable n t m ≡ true ↔ (is_matching n t m ≡ true) × (blocking_pair n t m ≡ none)
+    → is_super_stable n t m ≡ true ↔ (is_matching n t m ≡ true) × (blocking_pair n t m ≡ None)
 unfolding is_super_stable
 super_stable_parts n t m = (
   λ h. let both : (is_matching n t m ≡ true) × (is_none (blocking_pair n t m) ≡ true) = and_true _ _ h in (both.0, none_is _ both.1),
@@ -84,12 +84,12 @@ super_stable_parts n t m = (
 pub is_super_stable_means : IsSuperStableMeans
 is_super_stable_means n t m sq = (
   λ h.
-      let both : (is_matching n t m ≡ true) × (blocking_pair n t m ≡ none) = (super_stable_parts n t m).0 h in
+      let both : (is_matching n t m ≡ true) × (blocking_pair n t m ≡ None) = (super_stable_parts n t m).0 h in
       let w : (length m ≡ n) × Matching n (at t) (partner m) = (is_matching_means n t m).0 both.0 in
       (w.0, stable n (at t) (partner m) sq.few_joints w.1 sq.not_itself ((blocking_pair_none n t m).0 both.1)),
   λ h.
       let w : is_matching n t m ≡ true = (is_matching_means n t m).1 (h.0, h.1.matching) in
-      let q : blocking_pair n t m ≡ none =
+      let q : blocking_pair n t m ≡ None =
       (blocking_pair_none n t m).1 (unblockable n (at t) (partner m) sq.few_joints h.1) in
       (super_stable_parts n t m).1 (w, q),
 )

@@ -10,7 +10,12 @@ use lib.ListN.{length, take, drop}
 use lib.Seq.{take-append_seam, drop-append_seam}
 use Rattle.base.specs.Faults.{when, first_fault}
 use Rattle.base.proofs.Cases.{case, unlike}
-use Rattle.base.proofs.Faults.{first_answered, first_none, first_holds, fault_here, fault_behind, fault_passes, last_fault, when_less, when_holds}
+use Rattle.base.proofs.Faults.{first_answered, first_none, fault_here, fault_behind, fault_passes, last_fault, when_less}
+use Rattle.std.specs.Prelude.{Ok, Err}
+use Rattle.refusals.specs.declared.Refusal.{Refusal}
+use Rattle.refusals.specs.declared.Refusal.TheVariants.{TooManyJoints, OutTooShort, BadHierarchy, BadName}
+use Rattle.refusals.specs.Numbers.{number_of}
+use Rattle.refusals.proofs.Numbers.{number_some, numbered_once}
 use Rattle.writing.specs.Written.{over}
 use Rattle.words.specs.Words.{Words}
 use Rattle.names.specs.Names.{names_fault}
@@ -20,12 +25,11 @@ use Rattle.hierarchy.specs.Hierarchy.{Met, left, broken, hierarchy, joints_met, 
 use Rattle.hierarchy.specs.Spelt.{Roots, root_names, joints_in, Spells}
 use Rattle.hierarchy.proofs.ReadSpelt.{read_spelt}
 use Rattle.hierarchy.proofs.Lower.{parents_lower}
-use Rattle.bvh.specs.declared.Imported.TheVariants as I
 use Rattle.bvh.specs.Written.{sheet_for}
 use Rattle.bvh.specs.Answers.{sheet_in, import_faults, import_fault, import_of, import_into}
 use Rattle.bvh.specs.Claims.{GivesBack, Importable, names_met, ImportKept}
 use Rattle.bvh.proofs.SheetLaws.{sheet_length}
-use Rattle.bvh.proofs.ImportLaws.{refused_says, sheet_says, refused_keeps, sheet_over}
+use Rattle.bvh.proofs.ImportLaws.{Number, number_fault, import_number, refused_says, sheet_says, refused_keeps, sheet_over}
 use Rattle.bvh.proofs.GivesBack.{sheet_gives_back}
 
 -- WHAT WAS MET: read to its end, or broken off
@@ -90,23 +94,6 @@ importable s = (
       (met_none (hierarchy s)).1 (rw (spelt_joints s h i.spells) ((names_rule (root_names h)).1 i.names), spelt_out s h i.spells),
 )
 
--- a refusal's number
-abbrev Number : ℕ → Type 0
-Number k = 1 ≤ k → (k ≡ 2) ⊎ ((k ≡ 9) ⊎ ((k ≡ 19) ⊎ (k ≡ 20)))
-
-none_number : Number 0
-none_number some = absurd (omega arith)
-
-names_number : (names : Words) → Number (names_fault names)
-names_number names some =
-    case (names_refused names).number (λ z. absurd (omega arith)) (λ h. case h inl (λ e. inr (inr (inr e))))
-
-met_number : (met : Met) → Number (met_fault met)
-unfolding met_fault
-met_number (left ws js) = names_number js.names
-met_number (broken js) =
-    first_holds Number (names_fault js.names) (19 ∷ []) (names_number js.names) (rw (last_fault 19) (λ some. inr (inr (inl refl))))
-
 -- at most 128 names, and as many parents
 importable_short : (s : List ℕ) (h : Roots) → Importable s h → length (sheet_for (joints_in h)) ≤ 2180
 importable_short s h i =
@@ -122,48 +109,56 @@ module _ (s out : List ℕ) where
   abbrev nine : ℕ
   nine = when (ltb (length out) (length (sheet_in s))) 9
 
-  says : (k : ℕ) → import_of s (length out) ≡ I.Refused k ↔ ((import_fault s (length out) ≡ k) × (1 ≤ k))
-  says k = refused_says (import_fault s (length out)) k (sheet_in s)
+  says : (r : Refusal) → import_of s (length out) ≡ Err r ↔ (import_fault s (length out) ≡ number_of r)
+  says r = refused_says s (length out) r
 
-  -- a number that is answered exactly if P
-  answered : {P : Type 0} (k : ℕ) → 1 ≤ k → import_fault s (length out) ≡ k ↔ P → import_of s (length out) ≡ I.Refused k ↔ P
-  answered k some by = (λ h. by.0 ((says k).0 h).0, λ p. (says k).1 (by.1 p, some))
+  -- a number that is answered
+  first : (k : ℕ) → ((r : Refusal) × ((number_of r ≡ k) × (import_of s (length out) ≡ Err r))) ↔ ((import_fault s (length out) ≡ k) × (1 ≤ k))
+  first k = (
+    λ h. let (r, (e, said)) = h in let some = number_some r in ((says r).0 said ∙ e, omega arith),
+    λ h. case (number_fault (import_fault s (length out)) (import_number s (length out)))
+        (λ z. absurd (let e = h.0 in let some = h.1 in omega arith))
+        (λ f. (f.0, (f.1 ∙ h.0, (says f.0).1 (sym f.1)))),
+  )
 
   -- is there room for the sheet?
   room_or_not : ((nine ≡ 0) × (length (sheet_in s) ≤ length out)) ⊎ ((nine ≡ 9) × (length out < length (sheet_in s)))
   room_or_not = when_less (length out) (length (sheet_in s)) 9
 
-  numbers : (k : ℕ) → import_of s (length out) ≡ I.Refused k → (k ≡ 2) ⊎ ((k ≡ 9) ⊎ ((k ≡ 19) ⊎ (k ≡ 20)))
-  numbers k h =
-      let (e, some) = (says k).0 h in
-      let last = when_holds Number (ltb (length out) (length (sheet_in s))) 9 none_number (λ some. inr (inl refl)) in
-      let any : Number (import_fault s (length out)) = first_holds Number met (nine ∷ []) (met_number (hierarchy s)) (rw (last_fault nine) last) in
-      let own : Number k = rw e at any in
-      own some
+  numbers : (r : Refusal) → import_of s (length out) ≡ Err r
+      → (r ≡ TooManyJoints) ⊎ ((r ≡ OutTooShort) ⊎ ((r ≡ BadHierarchy) ⊎ (r ≡ BadName)))
+  numbers r h =
+      let e = (says r).0 h in
+      let own : Number (number_of r) = rw e at (import_number s (length out)) in
+      case (own (number_some r)) (λ k. inl (numbered_once r TooManyJoints k))
+      (λ o. case o (λ k. inr (inl (numbered_once r OutTooShort k)))
+      (λ o. case o (λ k. inr (inr (inl (numbered_once r BadHierarchy k)))) (λ k. inr (inr (inr (numbered_once r BadName k))))))
 
   -- a number of what was met, in the text alone
-  by_met : (k : ℕ) → 1 ≤ k → k ≢ 9 → import_of s (length out) ≡ I.Refused k ↔ (met ≡ k)
-  by_met k some other =
+  by_met : (r : Refusal) → number_of r ≢ 9 → import_of s (length out) ≡ Err r ↔ (met ≡ number_of r)
+  by_met r other =
+      let k = number_of r in
       let last : first_fault (nine ∷ []) ≢ k = λ e. case room_or_not
-      (λ r. let z = r.0 in let f = last_fault nine in omega arith)
-      (λ r. other (sym e ∙ last_fault nine ∙ r.0)) in
-      answered k some (fault_here met (nine ∷ []) k some last)
+      (λ q. let z = q.0 in let f = last_fault nine in let some = number_some r in omega arith)
+      (λ q. other (sym e ∙ last_fault nine ∙ q.0)) in
+      Iff.trans (says r) (fault_here met (nine ∷ []) k (number_some r) last)
 
-  by_name : {P : Type 0} (k : ℕ) → 1 ≤ k → k ≢ 9 → k ≢ 19 → names_fault (names_met s) ≡ k ↔ P → import_of s (length out) ≡ I.Refused k ↔ P
-  by_name k some other whole by = Iff.trans (by_met k some other) (Iff.trans (met_named (hierarchy s) k some whole) by)
+  by_name : {P : Type 0} (r : Refusal) → number_of r ≢ 9 → number_of r ≢ 19 → names_fault (names_met s) ≡ number_of r ↔ P
+      → import_of s (length out) ≡ Err r ↔ P
+  by_name r other whole by = Iff.trans (by_met r other) (Iff.trans (met_named (hierarchy s) (number_of r) (number_some r) whole) by)
 
-  by_nineteen : import_of s (length out) ≡ I.Refused 19 ↔ (GoodNames (names_met s) × ((h : Roots) → Spells s h → ⊥))
+  by_nineteen : import_of s (length out) ≡ Err BadHierarchy ↔ (GoodNames (names_met s) × ((h : Roots) → Spells s h → ⊥))
   by_nineteen =
-      Iff.trans (by_met 19 (omega arith) (λ e. omega arith))
+      Iff.trans (by_met BadHierarchy (λ e. omega arith))
       (Iff.trans (met_broken (hierarchy s)) (Iff.and (names_rule (names_met s)) (unspelt s)))
 
-  by_nine : import_of s (length out) ≡ I.Refused 9 ↔ ((h : Roots) × (Importable s h × (length out < length (sheet_for (joints_in h)))))
+  by_nine : import_of s (length out) ≡ Err OutTooShort ↔ ((h : Roots) × (Importable s h × (length out < length (sheet_for (joints_in h)))))
   by_nine =
       let other : met ≢ 9 = λ e. names_other (names_met s) 9 (omega arith) (λ e. omega arith) (λ e. omega arith)
       ((met_named (hierarchy s) 9 (omega arith) (λ e. omega arith)).0 e) in
       let last = last_fault nine in
       let behind = fault_behind met (nine ∷ []) 9 other in
-      answered 9 (omega arith) (
+      Iff.trans (says OutTooShort) (
         λ e. let (z, full) = behind.0 e in
             let (h, i) = (importable s).0 z in
             (h, (i, rw (← spelt_sheet s h i.spells) (case room_or_not (λ r. absurd (omega (arith, r.0))) (λ r. r.1)))),
@@ -181,10 +176,10 @@ module _ (s out : List ℕ) where
     λ h. fault_passes met (nine ∷ []) h.0 ∙ last_fault nine ∙ case room_or_not (λ r. r.0) (λ r. absurd (omega (arith, r.1, h.1))),
   )
 
-  sheet : (size : ℕ) → import_of s (length out) ≡ I.Sheet size
+  sheet : (size : ℕ) → import_of s (length out) ≡ Ok size
       ↔ ((h : Roots) × (Importable s h × ((size ≡ length (sheet_for (joints_in h))) × (size ≤ length out))))
   sheet size =
-      let b = sheet_says (import_fault s (length out)) size (sheet_in s) in (
+      let b = sheet_says s (length out) size in (
         λ e. let (f, long) = b.0 e in
             let (z, fits) = passes.0 f in
             let (h, i) = (importable s).0 z in
@@ -194,33 +189,36 @@ module _ (s out : List ℕ) where
             b.1 (passes.1 ((importable s).1 (h, i), omega arith), own),
       )
 
-  gives_back : (size : ℕ) (h : Roots) → import_of s (length out) ≡ I.Sheet size → Spells s h
+  gives_back : (size : ℕ) (h : Roots) → import_of s (length out) ≡ Ok size → Spells s h
       → GivesBack h (take size (import_into s out)) × (drop size (import_into s out) ≡ drop size out)
   gives_back size h e p =
-      let (f, long) = (sheet_says (import_fault s (length out)) size (sheet_in s)).0 e in
+      let (f, long) = (sheet_says s (length out) size).0 e in
       let good = spelt_good s h p (passes.0 f).0 in
       let into : import_into s out ≡ over (sheet_in s) out = sheet_over (import_fault s (length out)) (sheet_in s) out f in (
         rw (into, long, take-append_seam (sheet_in s), spelt_sheet s h p) (sheet_gives_back s h p good),
         rw (into, long) (drop-append_seam (sheet_in s) (drop (length (sheet_in s)) out)),
       )
 
-  at_most : (size : ℕ) → import_of s (length out) ≡ I.Sheet size → size ≤ 2180
+  at_most : (size : ℕ) → import_of s (length out) ≡ Ok size → size ≤ 2180
   at_most size e = let (h, (i, (long, fits))) = (sheet size).0 e in let most = importable_short s h i in omega arith
 
-  room : 2180 ≤ length out → import_of s (length out) ≢ I.Refused 9
+  room : 2180 ≤ length out → import_of s (length out) ≢ Err OutTooShort
   room wide e = let (h, (i, l)) = by_nine.0 e in let most = importable_short s h i in omega arith
 
 pub import_kept : ImportKept
 import_kept s out = record {
-  first = λ k. Iff.trans (says s out k) (first_answered (import_faults s (length out)) k);
+  first = λ k. Iff.trans (first s out k) (first_answered (import_faults s (length out)) k);
   numbers = numbers s out;
-  by_two = by_name s out 2 (omega arith) (λ e. omega arith) (λ e. omega arith) (names_refused (names_met s)).two;
-  by_twenty = by_name s out 20 (omega arith) (λ e. omega arith) (λ e. omega arith) (names_refused (names_met s)).twenty;
+  by_two = by_name s out TooManyJoints (λ e. omega arith) (λ e. omega arith) (names_refused (names_met s)).two;
+  by_twenty = by_name s out BadName (λ e. omega arith) (λ e. omega arith) (names_refused (names_met s)).twenty;
   by_nineteen = by_nineteen s out;
   by_nine = by_nine s out;
   sheet = sheet s out;
   gives_back = gives_back s out;
-  unchanged = λ k e. let (f, some) = (says s out k).0 e in refused_keeps (import_fault s (length out)) (sheet_in s) out (omega arith);
+  unchanged = λ r e.
+      let f = (says s out r).0 e in
+      let some = number_some r in
+      refused_keeps (import_fault s (length out)) (sheet_in s) out (omega arith);
   at_most = at_most s out;
   room = room s out;
 }

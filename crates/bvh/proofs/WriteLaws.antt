@@ -1,35 +1,33 @@
 -- Laws of the sheet's writers: what they write piece by piece is the sheet.
-use mathlib.Core.Path.{◌≡◌, refl, ◌∙◌}
-use mathlib.Core.List.{List, [], ◌∷◌}
-use Prim.Native.Nat.{ℕ, ◌+◌, ◌*◌, ◌-◌, ◌≤◌, ◌<◌}
+use mathlib.Core.Path.{◌≡◌, refl, sym, ◌∙◌}
+use mathlib.Core.List.{List, [], ◌∷◌, ◌++◌, append_assoc}
+use Prim.Native.Nat.{ℕ, ◌+◌, ◌*◌, ◌≤◌, ◌<◌}
 use native.Mathlib.Omega.{arith}
-use lib.ListN.{length, get_or, take, drop, replicate, replicate-append-replicate}
-use lib.Seq.{length-take-le}
+use lib.ListN.{length, get_or, take, drop, replicate, length-replicate, length-map, get_or-map}
+use lib.Seq.{drop-drop}
 use Rattle.base.specs.Below.{joined}
-use Rattle.writing.specs.Written.{Wrote}
-use Rattle.writing.proofs.Writings.{wrote_append, joined_wrote, wrote_length}
-use Rattle.words.specs.Words.{Words, word_at}
-use Rattle.words.proofs.WordLaws.{word_is}
+use Rattle.writing.specs.Written.{written, Wrote}
+use Rattle.writing.proofs.Writings.{writes_in_place, wrote_append, wrote_more, joined_wrote, wrote_length}
+use Rattle.base.proofs.Places.{get_d_inside}
+use Rattle.words.specs.Words.{Words}
+use Rattle.names.specs.declared.joints.NamedJoint.{NamedJoint}
 use Rattle.names.specs.Names.{name_of}
-use Rattle.names.specs.Kept.{names_at}
-use Rattle.names.proofs.KeptLaws.{names_length, name_at}
+use Rattle.names.specs.Kept.{kept_names, kept_parents}
+use Rattle.names.proofs.KnownLaws.{names_length}
 use Rattle.hierarchy.specs.Gathered.{gathered}
 use Rattle.bvh.specs.Written.{label_for, labels_for, sheet_for}
 use Rattle.bvh.specs.Places.{Writable, written_size}
 use Rattle.bvh.proofs.SheetLaws.{label_length, parts_length, sheet_length}
 
--- ZEROS: one more
-pub zeros_wrote : {l l₁ l₂ : List ℕ} {i i₁ i₂ : ℕ} (k : ℕ) → Wrote l i (replicate k 0) l₁ i₁ → Wrote l₁ i₁ (0 ∷ []) l₂ i₂
-    → Wrote l i (replicate (k + 1) 0) l₂ i₂
-zeros_wrote k u v = rw (← replicate-append-replicate {A = ℕ} k 1 0) (wrote_append u v)
-
--- A LABEL: the bytes from where a word begins to where it ends, and zeros
-pub label_wrote : {l l₁ l₂ : List ℕ} {i i₁ i₂ : ℕ} (s : List ℕ) (start end : ℕ) → end ≡ start + length (word_at s start) → end ≤ length s
-    → Wrote l i (take (end - start) (drop start s)) l₁ i₁ → Wrote l₁ i₁ (replicate (16 - (end - start)) 0) l₂ i₂
-    → Wrote l i (label_for (word_at s start)) l₂ i₂
-label_wrote s start end e within u v =
-    let size : end - start ≡ length (word_at s start) = omega arith in
-    wrote_append (rw (word_is s start end e within).bytes at u) (rw size at v)
+-- ZEROS that fill a part of the buffer
+pub zeros_wrote : (l zeros : List ℕ) (i n : ℕ) → zeros ≡ replicate n 0 → i + n ≤ length l
+    → Wrote l i (replicate n 0) (take i l ++ (zeros ++ drop n (drop i l))) (i + n)
+zeros_wrote l zeros i n e h =
+    let size = length-replicate {A = ℕ} n 0 in
+    let end = i + length (replicate {A = ℕ} n 0) in
+    let whole : Wrote l i (replicate n 0) (written l i (replicate n 0)) end = record { buffer = refl; behind = refl } in
+    let place = (writes_in_place l (written l i (replicate n 0)) (replicate n 0) i end whole (omega arith)).0 in
+    record { buffer = rw (e, drop-drop n i l, ← append_assoc (take i l) (replicate n 0) (drop (i + n) l)) (sym (rw size at place)); behind = omega arith }
 
 -- A BUFFER with room for the sheet of k joints, in which k labels and j bytes are written; a byte more
 abbrev pub Fits : ℕ → ℕ → List ℕ → ℕ → Type 0
@@ -42,45 +40,61 @@ byte_fits k j h u = let same = wrote_length u in (omega (arith, h.0, u.behind), 
 abbrev pub first_labels : Words → ℕ → List ℕ
 first_labels names i = joined i (λ j. label_for (name_of names j))
 
--- NAMES BY THEIR PLACES
-module _ {s : List ℕ} {k : ℕ} {starts : List ℕ} (names : Writable s k starts) where
-  name_short : (i : ℕ) → i < k → length (name_of (names_at s k starts) i) ≤ 16
-  name_short i l = rw (name_at names.placed i l) (names.short i l)
+-- THE PARENTS, one after the other
+pub parents_more : {l l₁ l₂ : List ℕ} {p p₁ p₂ : ℕ} (joints : List NamedJoint) (i : ℕ) (d : NamedJoint) → i < length joints
+    → Wrote l p (take i (kept_parents joints)) l₁ p₁ → Wrote l₁ p₁ ((get_or joints i d).parent ∷ []) l₂ p₂
+    → Wrote l p (take (i + 1) (kept_parents joints)) l₂ p₂
+parents_more joints i d h u v =
+    let n = length-map joints (λ j. j.parent) in
+    let own : get_or (kept_parents joints) i 0 ≡ (get_or joints i d).parent =
+    get_d_inside (kept_parents joints) i 0 d.parent (omega arith) ∙ get_or-map (λ j. j.parent) joints i d in
+    wrote_more (kept_parents joints) i (omega arith) u (rw own v)
+
+-- NAMES THAT FIT LABELS
+module _ {joints : List NamedJoint} (fit : Writable joints) where
+  -- the name of one of the joints
+  name_is : (i : ℕ) (d : NamedJoint) → i < length joints → name_of (kept_names joints) i ≡ (get_or joints i d).name.now
+  name_is i d h =
+      let n = names_length joints in
+      get_d_inside (kept_names joints) i [] d.name.now (omega arith) ∙ get_or-map (λ j. j.name.now) joints i d
+
+  pub name_fits : (i : ℕ) (d : NamedJoint) → i < length joints → length (get_or joints i d).name.now ≤ 16
+  name_fits i d h = rw (← name_is i d h) (fit.short i h)
 
   -- their labels, one after the other
-  pub labels_length : (i : ℕ) → i ≤ k → length (first_labels (names_at s k starts) i) ≡ 16 * i
-  labels_length i h = parts_length _ i (λ j l. label_length (name_of (names_at s k starts) j) (name_short j (omega arith)))
+  pub labels_length : (i : ℕ) → i ≤ length joints → length (first_labels (kept_names joints) i) ≡ 16 * i
+  labels_length i h = parts_length _ i (λ j l. label_length (name_of (kept_names joints) j) (fit.short j (omega arith)))
 
-  pub labels_more : {l l₁ l₂ : List ℕ} {p p₁ p₂ : ℕ} (i : ℕ) → i < k
-      → Wrote l p (first_labels (names_at s k starts) i) l₁ p₁ → Wrote l₁ p₁ (label_for (word_at s (get_or starts i 0))) l₂ p₂
-      → Wrote l p (first_labels (names_at s k starts) (i + 1)) l₂ p₂
-  labels_more i h u v = joined_wrote i _ u (rw (name_at names.placed i h) v)
+  pub labels_more : {l l₁ l₂ : List ℕ} {p p₁ p₂ : ℕ} (i : ℕ) (d : NamedJoint) → i < length joints
+      → Wrote l p (first_labels (kept_names joints) i) l₁ p₁ → Wrote l₁ p₁ (label_for (get_or joints i d).name.now) l₂ p₂
+      → Wrote l p (first_labels (kept_names joints) (i + 1)) l₂ p₂
+  labels_more i d h u v = joined_wrote i _ u (rw (name_is i d h) v)
 
-  labels_all : labels_for (names_at s k starts) ≡ first_labels (names_at s k starts) k
-  labels_all = rw (names_length names.placed) refl
+  labels_all : labels_for (kept_names joints) ≡ first_labels (kept_names joints) (length joints)
+  labels_all = rw (names_length joints) refl
 
-  pub labels_fit : {l l₁ l₂ : List ℕ} {p₁ p₂ b : ℕ} → written_size k ≤ length l
-      → Wrote l 0 (b ∷ []) l₁ p₁ → Wrote l₁ p₁ (labels_for (names_at s k starts)) l₂ p₂ → Fits k 1 l₂ p₂
+  pub labels_fit : {l l₁ l₂ : List ℕ} {p₁ p₂ b : ℕ} → written_size (length joints) ≤ length l
+      → Wrote l 0 (b ∷ []) l₁ p₁ → Wrote l₁ p₁ (labels_for (kept_names joints)) l₂ p₂ → Fits (length joints) 1 l₂ p₂
   labels_fit h u v =
       let all = rw labels_all at v in
-      let long = labels_length k (omega arith) in
+      let long = labels_length (length joints) (omega arith) in
       let same = wrote_length (wrote_append u v) in
       (omega (arith, u.behind, all.behind), omega arith)
 
   -- their sheet, and its pieces
-  pub sheet_size : (parents : List ℕ) → k ≤ length parents → length (sheet_for (gathered s k starts parents)) ≡ written_size k
-  sheet_size parents h =
-      let n = names_length names.placed in
-      let each = length-take-le k parents h in
-      sheet_length (gathered s k starts parents) (λ i l. name_short i (omega arith)) ∙ omega arith
+  pub sheet_size : length (sheet_for (gathered joints)) ≡ written_size (length joints)
+  sheet_size =
+      let n = names_length joints in
+      let each = length-map joints (λ j. j.parent) in
+      sheet_length (gathered joints) (λ i l. fit.short i (omega arith)) ∙ omega arith
 
-  pub sheet_wrote : {l l₁ l₂ l₃ l₄ l₅ l₆ : List ℕ} {p₁ p₂ p₃ p₄ p₅ p₆ : ℕ} (parents : List ℕ) → k ≤ length parents
-      → Wrote l 0 (k ∷ []) l₁ p₁ → Wrote l₁ p₁ (labels_for (names_at s k starts)) l₂ p₂
-      → Wrote l₂ p₂ (0 ∷ []) l₃ p₃ → Wrote l₃ p₃ (0 ∷ []) l₄ p₄ → Wrote l₄ p₄ (k ∷ []) l₅ p₅ → Wrote l₅ p₅ (take k parents) l₆ p₆
-      → Wrote l 0 (sheet_for (gathered s k starts parents)) l₆ (written_size k)
+  pub sheet_wrote : {l l₁ l₂ l₃ l₄ l₅ l₆ : List ℕ} {p₁ p₂ p₃ p₄ p₅ p₆ : ℕ}
+      → Wrote l 0 (length joints ∷ []) l₁ p₁ → Wrote l₁ p₁ (labels_for (kept_names joints)) l₂ p₂
+      → Wrote l₂ p₂ (0 ∷ []) l₃ p₃ → Wrote l₃ p₃ (0 ∷ []) l₄ p₄ → Wrote l₄ p₄ (length joints ∷ []) l₅ p₅ → Wrote l₅ p₅ (kept_parents joints) l₆ p₆
+      → Wrote l 0 (sheet_for (gathered joints)) l₆ (written_size (length joints))
   unfolding sheet_for
-  sheet_wrote parents h count labels low high again above =
+  sheet_wrote count labels low high again above =
       let known = rw labels_all at labels in
       let all = wrote_append count (wrote_append known (wrote_append low (wrote_append high (wrote_append again above)))) in
-      let size = sheet_size parents h in
-      record { buffer = rw (names_length names.placed) all.buffer; behind = omega arith }
+      let size = sheet_size in
+      record { buffer = rw (names_length joints) all.buffer; behind = omega arith }

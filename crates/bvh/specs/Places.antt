@@ -1,13 +1,14 @@
--- What the code writes sheets from: names by their places in the text.
-use Rattle.std.specs.Prelude.{ℕ, ◌+◌, ◌*◌, ◌≤◌, ◌<◌, List, length, get_or}
+-- What the code writes sheets from: joints whose names fit labels.
+use Rattle.std.specs.Prelude.{ℕ, ◌+◌, ◌*◌, ◌≤◌, ◌<◌, List, length}
 use Rattle.sections.specs.Labels.{label_width}
-use Rattle.words.specs.Words.{word_at}
-use Rattle.names.specs.Kept.{Placed}
+use Rattle.names.specs.declared.joints.NamedJoint.{NamedJoint}
+use Rattle.names.specs.Names.{name_of}
+use Rattle.names.specs.Kept.{kept_names}
 
--- each name lies in the text, and fits a label
-pub record Writable (s : List ℕ) (k : ℕ) (starts : List ℕ) : Type 0 where
-  pub placed : Placed s k starts
-  pub short : (i : ℕ) → i < k → length (word_at s (get_or starts i 0)) ≤ label_width
+-- there is a label's room for each name, and for each joint
+pub record Writable (joints : List NamedJoint) : Type 0 where
+  pub few : length joints ≤ 128
+  pub short : (i : ℕ) → i < length joints → length (name_of (kept_names joints) i) ≤ label_width
 
 -- three counts, of which one has two bytes; a label and a parent for each joint
 abbrev pub written_size : ℕ → ℕ

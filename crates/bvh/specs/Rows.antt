@@ -1,5 +1,7 @@
 -- Worked examples of the call: texts by their words, and the sheets that they become, or which refusal comes first.
-use Rattle.std.specs.Prelude.{◌≡◌, List, [], ◌∷◌, ◌++◌, ℕ, length, replicate}
+use Rattle.std.specs.Prelude.{◌≡◌, List, [], ◌∷◌, ◌++◌, ℕ, length, replicate, Result, Ok, Err}
+use Rattle.refusals.specs.declared.Refusal.{Refusal}
+use Rattle.refusals.specs.declared.Refusal.TheVariants.{OutTooShort, BadHierarchy, BadName}
 use Rattle.words.specs.Words.{Words}
 use Rattle.headings.specs.Keywords.{
   hierarchy_word,
@@ -13,15 +15,13 @@ use Rattle.headings.specs.Keywords.{
   close_word,
   motion_word,
 }
-use Rattle.bvh.specs.declared.Imported.{Imported}
-use Rattle.bvh.specs.declared.Imported.TheVariants.{Sheet, Refused}
 use Rattle.bvh.specs.Answers.{import_of, import_into}
 
 -- A ROW: a text, a buffer, the answer, and the buffer after it.
 pub record Row : Type 0 where
   pub text : List ℕ
   pub out : List ℕ
-  pub answer : Imported
+  pub answer : Result ℕ Refusal
   pub left : List ℕ
 
 abbrev pub Holds : Row → Type 0
@@ -38,10 +38,10 @@ room n = replicate n 7
 
 -- a sheet behind which a byte is left; a refusal
 abbrev pub becomes : Words → List ℕ → Row
-becomes ws sheet = record { text = spaced 10 ws; out = room (length sheet) ++ (7 ∷ []); answer = Sheet (length sheet); left = sheet ++ (7 ∷ []) }
+becomes ws sheet = record { text = spaced 10 ws; out = room (length sheet) ++ (7 ∷ []); answer = Ok (length sheet); left = sheet ++ (7 ∷ []) }
 
-abbrev pub refuses : Words → ℕ → Row
-refuses ws number = record { text = spaced 10 ws; out = room 40; answer = Refused number; left = room 40 }
+abbrev pub refuses : Words → Refusal → Row
+refuses ws refusal = record { text = spaced 10 ws; out = room 40; answer = Err refusal; left = room 40 }
 
 -- the words a, b, c, d, and the count 0
 abbrev pub a : List ℕ
@@ -90,21 +90,21 @@ rows =
     ∷ becomes (text (block_of a [] ++ (root_word ∷ block_of sixteen []) ++ (motion_word ∷ open_word ∷ [])))
     (2 ∷ label a ++ sixteen ++ (0 ∷ 0 ∷ 2 ∷ 255 ∷ 255 ∷ []))
     -- 19: nothing; no root; MOTION before a root; no closing brace; ROOT in a block; a closing brace too many
-    ∷ refuses [] 19
-    ∷ refuses (hierarchy_word ∷ []) 19
-    ∷ refuses (hierarchy_word ∷ motion_word ∷ []) 19
-    ∷ refuses (text (a ∷ open_word ∷ offset_word ∷ a ∷ a ∷ a ∷ channels_word ∷ nought ∷ [])) 19
-    ∷ refuses (text (block_of a (root_word ∷ block_of b []))) 19
-    ∷ refuses (text (block_of a [] ++ (close_word ∷ []))) 19
+    ∷ refuses [] BadHierarchy
+    ∷ refuses (hierarchy_word ∷ []) BadHierarchy
+    ∷ refuses (hierarchy_word ∷ motion_word ∷ []) BadHierarchy
+    ∷ refuses (text (a ∷ open_word ∷ offset_word ∷ a ∷ a ∷ a ∷ channels_word ∷ nought ∷ [])) BadHierarchy
+    ∷ refuses (text (block_of a (root_word ∷ block_of b []))) BadHierarchy
+    ∷ refuses (text (block_of a [] ++ (close_word ∷ []))) BadHierarchy
     -- 19: one channel less than counted; a count that is not digits alone
-    ∷ refuses (text (a ∷ open_word ∷ offset_word ∷ a ∷ a ∷ a ∷ channels_word ∷ (50 ∷ []) ∷ a ∷ [])) 19
-    ∷ refuses (text (a ∷ open_word ∷ offset_word ∷ a ∷ a ∷ a ∷ channels_word ∷ (48 ∷ 120 ∷ []) ∷ close_word ∷ [])) 19
+    ∷ refuses (text (a ∷ open_word ∷ offset_word ∷ a ∷ a ∷ a ∷ channels_word ∷ (50 ∷ []) ∷ a ∷ [])) BadHierarchy
+    ∷ refuses (text (a ∷ open_word ∷ offset_word ∷ a ∷ a ∷ a ∷ channels_word ∷ (48 ∷ 120 ∷ []) ∷ close_word ∷ [])) BadHierarchy
     -- 20 at a name, before what follows it: an earlier name; a byte above 126; more than 16 bytes
-    ∷ refuses (text (block_of a (joint_word ∷ a ∷ []))) 20
-    ∷ refuses (text ((127 ∷ []) ∷ [])) 20
-    ∷ refuses (text ((126 ∷ sixteen) ∷ [])) 20
+    ∷ refuses (text (block_of a (joint_word ∷ a ∷ []))) BadName
+    ∷ refuses (text ((127 ∷ []) ∷ [])) BadName
+    ∷ refuses (text ((126 ∷ sixteen) ∷ [])) BadName
     -- 19 before 20, where the form is broken before the name is met
-    ∷ refuses (hierarchy_word ∷ (126 ∷ sixteen) ∷ []) 19
+    ∷ refuses (hierarchy_word ∷ (126 ∷ sixteen) ∷ []) BadHierarchy
     -- 9: a byte less than the sheet has
-    ∷ record { text = spaced 13 (text (block_of a [])); out = room 20; answer = Refused 9; left = room 20 }
+    ∷ record { text = spaced 13 (text (block_of a [])); out = room 20; answer = Err OutTooShort; left = room 20 }
     ∷ []

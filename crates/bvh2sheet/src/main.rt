@@ -10,8 +10,8 @@ ghost use Rattle.io.specs.Counts.{IsPrefixLen};
 ghost use Rattle.bvh2sheet.specs.Cut.{closed};
 ghost use Rattle.bvh2sheet.specs.Said.{refused_line};
 
-use bvh::Imported;
 use io::{read_full, write_all};
+use refusals::Refusal;
 use std::io::Read;
 
 const STDIN: i32 = 0;
@@ -36,10 +36,7 @@ fn close(text: &mut [u8], size: usize, ended: bool) -> usize
 // Does the input end here? A read that fails does not tell so.
 fn has_ended(input: &mut impl Read) -> bool {
     let mut next = [0u8; 1];
-    match input.read(&mut next) {
-        Ok(count) => count == 0,
-        Err(_) => false,
-    }
+    matches!(input.read(&mut next), Ok(0))
 }
 
 // Reads standard input, up to a byte less than there is room for: the last is for the mark. `input` is what follows there.
@@ -52,36 +49,29 @@ fn read_text(input: &mut impl Read, text: &mut [u8]) -> usize
     close(text, size, has_ended(input))
 }
 
-fn number(answer: Imported) -> u8 {
-    match answer {
-        Imported::Sheet(_) => 0,
-        Imported::Refused(number) => number,
-    }
-}
-
 // Writes what is said of a refusal, and returns its length.
 fn write_refused(number: u8, line: &mut [u8]) -> usize
     requires { 12 ≤ length line.old }
     ensures prefix_len { IsPrefixLen result line.new }
     ensures line_after { take result line.new ≡ refused_line number }
 {
-    writing::write_number_line(b"refused ", base::wide(number), 0, line)
+    writing::write_number_line(b"refused ", usize::from(number), 0, line)
 }
 
-fn say_refused(number: u8) {
+fn say_refused(refusal: Refusal) {
     let mut line = [0u8; 12];
-    let end = write_refused(number, &mut line);
+    let end = write_refused(u8::from(refusal), &mut line);
     write_all(STDERR, &line[..end]);
 }
 
 fn answer(text: &[u8]) {
     let mut sheet = [0u8; 2180];
-    let found = bvh::import(text, &mut sheet);
-    let Imported::Sheet(length) = found else {
-        say_refused(number(found));
-        return;
-    };
-    write_all(STDOUT, &sheet[..length]);
+    match bvh::import(text, &mut sheet) {
+        Ok(length) => {
+            write_all(STDOUT, &sheet[..length]);
+        }
+        Err(refusal) => say_refused(refusal),
+    }
 }
 
 fn main(rt: HostRuntime) {

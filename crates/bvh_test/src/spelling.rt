@@ -1,5 +1,12 @@
 // Words by their codes: the keywords are 0 to 9, other words 10 to 35, gaps 36 to 40, nothing 41, and the names from 50 on: n and two letters.
-ghost use Rattle.std.specs.Prelude.{◌<◌, ◌≤◌};
+use arrayvec::ArrayVec;
+use samples::put;
+
+pub const HIERARCHY: u8 = 0;
+
+pub const ROOT: u8 = 1;
+
+pub const JOINT: u8 = 2;
 
 pub const BRACE: u8 = 3;
 
@@ -9,62 +16,70 @@ pub const OFFSET: u8 = 5;
 
 pub const CHANNELS: u8 = 6;
 
+pub const END: u8 = 7;
+
 pub const SITE: u8 = 8;
+
+pub const MOTION: u8 = 9;
 
 const SPACE: u8 = 36;
 
 pub const NOTHING: u8 = 41;
 
-// The table of what is listed, each ended by a bar: a row for each code, with zeros behind it.
-pub fn table_of(list: &[u8]) -> [[u8; 32]; 128] {
-    let mut table = [[0u8; 32]; 128];
-    let mut row = 0;
-    let mut column = 0;
-    let mut i = 0;
-    while i < list.len() {
-        if list[i] == b'|' {
-            row = row % 128 + 1;
-            column = 0;
-        } else {
-            table[row % 128][column % 32] = list[i];
-            column = column % 32 + 1;
-        }
-        i += 1;
-    }
-    table
-}
+const WORDS: [&[u8]; 42] = [
+    b"HIERARCHY",
+    b"ROOT",
+    b"JOINT",
+    b"{",
+    b"}",
+    b"OFFSET",
+    b"CHANNELS",
+    b"End",
+    b"Site",
+    b"MOTION",
+    b"0",
+    b"1",
+    b"3",
+    b"003",
+    b"6",
+    b"000000000000000000000000001",
+    b"99999999999999999999",
+    b"18446744073709551617",
+    b"2x",
+    b"-1.5e-3",
+    b"12.25",
+    b"Zrotation",
+    b"root",
+    b"END",
+    b"JOINTS",
+    b"MOTIO",
+    b"{}",
+    b"!",
+    b"~",
+    b"nD",
+    b"abcdefghijklmnop",
+    b"abcdefghijklmnopq",
+    b"n\x7f",
+    b"\xc8n",
+    b"n\x0bn",
+    b"n\x01",
+    b"\x20",
+    b"\t",
+    b"\n",
+    b"\r\n",
+    b" \t\r \n\n",
+    b"",
+];
 
-// Byte i of the word of a code, 0 behind it.
-fn byte_of(table: &[[u8; 32]; 128], code: u8, i: usize) -> u8
-    requires { i < 32 }
-{
-    if code < 50 {
-        return table[code as usize % 128][i];
-    }
-    match i {
-        0 => b'n',
-        1 => 65 + code / 16,
-        2 => 65 + code % 16,
-        _ => 0,
-    }
-}
+// No text here fills it.
+pub type Text = ArrayVec<u8, 16384>;
 
-// Writes a word at a place of the text, and returns the place behind it.
-pub fn put_code(table: &[[u8; 32]; 128], code: u8, at: usize, text: &mut [u8; 16384]) -> usize {
-    let mut to = at;
-    let mut i = 0;
-    while i < 32 {
-        let byte = byte_of(table, code, i);
-        if byte == 0 {
-            return to;
-        }
-        if to < 16384 {
-            text[to] = byte;
-            to += 1;
-        }
-        i += 1;
+// A word at the end of the text.
+pub fn put_code(text: &mut Text, code: u8) {
+    match WORDS.get(usize::from(code)) {
+        Some(word) => put(text, word),
+        None => put(text, &[b'n', 65 + code / 16, 65 + code % 16]),
     }
-    to
 }
 
 // The gap before a word, by a number: half of the gaps are a space, and nothing at the text's ends.

@@ -13,11 +13,18 @@ use Rattle.base.proofs.Faults.{fault_stops, fault_passes, last_fault}
 use Rattle.sheet.specs.Format.{joints, rank_count}
 use Rattle.sheet.specs.Refusals.{sheet_fault}
 use Rattle.sheet.specs.Square.{square_of, SquarePromise}
-use Rattle.sheet.specs.declared.Parts.{Parts}
-use Rattle.sheet.proofs.ReadAs.{ReadAs, ListsAs}
+use Rattle.sheet.specs.declared.Sheet.{Sheet}
+use Rattle.sheet.specs.Readings.{reading_of, ReadsAs}
+use Rattle.sheet.proofs.ReadAs.{reads, read_refused}
+use Rattle.refusals.specs.declared.Refusal.{Refusal}
+use Rattle.refusals.specs.declared.Refusal.TheVariants.{OutTooShort}
+use Rattle.refusals.specs.Numbers.{number_of}
+use Rattle.refusals.proofs.Numbers.{number_some, refusal_back, answered_refused}
+use Rattle.std.proofs.Common.{Option, Some, Result, Ok, Err}
+use Rattle.roommates.specs.PhaseOne.{Work}
 use Rattle.roommates.specs.Lists.{Square}
 use Rattle.roommates.specs.declared.Stage.{Stage}
-use Rattle.roommates.specs.Moves.{Outcome}
+use Rattle.roommates.specs.Moves.{Outcome, outcome}
 use Rattle.roommates.specs.Left.{pairing_of, entry_count, list_bytes}
 use Rattle.matching.proofs.PairCounts.{paired_few}
 use Rattle.matching.specs.Matchings.{pair_count}
@@ -28,32 +35,30 @@ use Rattle.records.specs.Records.{worked_by, settles_by, shortens_by}
 use Rattle.records.proofs.RecordDemands.{worked_by_arrives}
 use Rattle.roommates.proofs.WorkingsEnd.{arrived_shrunk, arrived_few}
 use Rattle.roommates.proofs.PairsWritten.{pairing_length}
-use Rattle.stages.specs.declared.Place.{Place}
-use Rattle.stages.specs.Places.{outcome_at}
-use Rattle.calls.specs.declared.Settled.{Settled}
-use Rattle.calls.specs.declared.Shortened.{Shortened}
+use Rattle.calls.specs.declared.End.{End}
 use Rattle.calls.specs.declared.Counts.{Counts}
 use Rattle.calls.specs.Calls.{Says, settle_says, shorten_says, on_sheet, settle_call, shorten_call, ended_as, listed_as}
 use Rattle.calls.specs.Calls.{settled_by, shortened_by, result_over, left_by, counts, end_counts, counts_as, counts_of}
 use Rattle.sheet.proofs.Sizes.{accepted_sizes}
-use Rattle.calls.proofs.Answers.{settled_refused, shortened_refused, unwritten}
-use Rattle.calls.specs.declared.Settled.TheVariants as S
-use Rattle.calls.specs.declared.Shortened.TheVariants as L
+use Rattle.calls.proofs.Answers.{unwritten}
 
 -- AN ANSWER with the buffer beside it, by what the call says
 module _ (c : Says) (out : List ℕ) where
-  abbrev pub SettledSo : Settled → List ℕ → Type 0
+  abbrev pub SettledSo : Result End Refusal → List ℕ → Type 0
   SettledSo r after = (r ≡ settled_by c) × (after ≡ left_by c out)
 
-  abbrev pub ShortenedSo : Shortened → List ℕ → Type 0
+  abbrev pub ShortenedSo : Result (Option ℕ) Refusal → List ℕ → Type 0
   ShortenedSo r after = (r ≡ shortened_by c) × (after ≡ left_by c out)
 
-  module _ {k : ℕ} (e : first_fault c.faults ≡ k) where
-    pub so_refused : 1 ≤ k → SettledSo (S.Refused k) out
-    so_refused h = rw e (sym (settled_refused k c.verdict c.count h), sym (unwritten k c.verdict c.bytes out h))
+  module _ (r : Refusal) (e : number_of r ≡ first_fault c.faults) where
+    kept : out ≡ left_by c out
+    kept = sym (unwritten (first_fault c.faults) c.verdict c.bytes out (omega (arith, e, number_some r)))
 
-    pub so_short : 1 ≤ k → ShortenedSo (L.Refused k) out
-    so_short h = rw e (sym (shortened_refused k c.verdict c.count h), sym (unwritten k c.verdict c.bytes out h))
+    pub so_refused : SettledSo (Err r) out
+    so_refused = (answered_refused _ (first_fault c.faults) r e, kept)
+
+    pub so_short : ShortenedSo (Err r) out
+    so_short = (answered_refused _ (first_fault c.faults) r e, kept)
 
 -- WHERE THE CALL STANDS among its refusals, given the working: 9, then the choices' own
 module _ (n : ℕ) (t : Square) (cs : List ℕ) (room : ℕ) where
@@ -74,21 +79,22 @@ module _ (n : ℕ) (t : Square) (cs out : List ℕ) where
   abbrev pub settling : Says
   settling = settle_says n t cs (length out)
 
-  pub settled_short : length out < n → SettledSo settling out (S.Refused 9) out
-  settled_short h = so_refused settling out (settle_nine n t cs (length out) h) (omega arith)
+  pub settled_short : length out < n → SettledSo settling out (Err OutTooShort) out
+  settled_short h = so_refused settling out OutTooShort (sym (settle_nine n t cs (length out) h))
 
-  module _ (g : Place) {u : Square} (w : outcome_at u g ≡ settles_by n t cs) (long : n ≤ length out) where
-    choice : first_fault settling.faults ≡ g.refusal
-    choice = settle_choice n t cs (length out) long ∙ sym (ap (λ (o : Outcome). o.refusal) w)
+  -- the working w ended with the fault f, 0 for none
+  module _ (f : ℕ) (w : Work) (e : outcome f w ≡ settles_by n t cs) (long : n ≤ length out) where
+    choice : first_fault settling.faults ≡ f
+    choice = settle_choice n t cs (length out) long ∙ sym (ap (λ (o : Outcome). o.refusal) e)
 
-    pub settled_choice : 1 ≤ g.refusal → SettledSo settling out (S.Refused g.refusal) out
-    settled_choice h = so_refused settling out choice h
+    pub settled_choice : (r : Refusal) → number_of r ≡ f → SettledSo settling out (Err r) out
+    settled_choice r h = so_refused settling out r (h ∙ sym choice)
 
-    pub settled_at : (v : Stage) → g.refusal ≡ 0 → g.stage ≡ v
-        → SettledSo settling out (ended_as v (pair_count (pairing_of n u))) (result_over v (pairing_of n u) out)
+    pub settled_at : (v : Stage) → f ≡ 0 → w.stage ≡ v
+        → SettledSo settling out (Ok (ended_as v (pair_count (pairing_of n w.lists)))) (result_over v (pairing_of n w.lists) out)
     settled_at v none h =
-        let verdict : (settles_by n t cs).work_is.stage ≡ v = sym (ap (λ (o : Outcome). o.work_is.stage) w) ∙ h in
-        let lists : (settles_by n t cs).work_is.lists ≡ u = sym (ap (λ (o : Outcome). o.work_is.lists) w) in
+        let verdict : (settles_by n t cs).work_is.stage ≡ v = sym (ap (λ (o : Outcome). o.work_is.stage) e) ∙ h in
+        let lists : (settles_by n t cs).work_is.lists ≡ w.lists = sym (ap (λ (o : Outcome). o.work_is.lists) e) in
         rw (choice, none, verdict, lists) (refl, refl)
 
 -- SHORTEN, over n joints' lists with m entries
@@ -96,32 +102,34 @@ module _ (n m : ℕ) (t : Square) (cs out : List ℕ) where
   abbrev pub shortening : Says
   shortening = shorten_says n m t cs (length out)
 
-  pub shortened_short : length out < 2 + 3 * m → ShortenedSo shortening out (L.Refused 9) out
-  shortened_short h = so_short shortening out (shorten_nine n t cs (length out) m h) (omega arith)
+  pub shortened_short : length out < 2 + 3 * m → ShortenedSo shortening out (Err OutTooShort) out
+  shortened_short h = so_short shortening out OutTooShort (sym (shorten_nine n t cs (length out) m h))
 
-  module _ (g : Place) {u : Square} (w : outcome_at u g ≡ shortens_by n t cs) (long : 2 + 3 * m ≤ length out) where
-    choice' : first_fault shortening.faults ≡ g.refusal
-    choice' = shorten_choice n t cs (length out) m long ∙ sym (ap (λ (o : Outcome). o.refusal) w)
+  module _ (f : ℕ) (w : Work) (e : outcome f w ≡ shortens_by n t cs) (long : 2 + 3 * m ≤ length out) where
+    choice' : first_fault shortening.faults ≡ f
+    choice' = shorten_choice n t cs (length out) m long ∙ sym (ap (λ (o : Outcome). o.refusal) e)
 
-    pub shortened_choice : 1 ≤ g.refusal → ShortenedSo shortening out (L.Refused g.refusal) out
-    shortened_choice h = so_short shortening out choice' h
+    pub shortened_choice : (r : Refusal) → number_of r ≡ f → ShortenedSo shortening out (Err r) out
+    shortened_choice r h = so_short shortening out r (h ∙ sym choice')
 
-    pub shortened_at : (v : Stage) → g.refusal ≡ 0 → g.stage ≡ v
-        → ShortenedSo shortening out (listed_as v (entry_count n u)) (result_over v (list_bytes n u) out)
+    pub shortened_at : (v : Stage) → f ≡ 0 → w.stage ≡ v
+        → ShortenedSo shortening out (Ok (listed_as v (entry_count n w.lists))) (result_over v (list_bytes n w.lists) out)
     shortened_at v none h =
-        let verdict : (shortens_by n t cs).work_is.stage ≡ v = sym (ap (λ (o : Outcome). o.work_is.stage) w) ∙ h in
-        let lists : (shortens_by n t cs).work_is.lists ≡ u = sym (ap (λ (o : Outcome). o.work_is.lists) w) in
+        let verdict : (shortens_by n t cs).work_is.stage ≡ v = sym (ap (λ (o : Outcome). o.work_is.stage) e) ∙ h in
+        let lists : (shortens_by n t cs).work_is.lists ≡ w.lists = sym (ap (λ (o : Outcome). o.work_is.lists) e) in
         rw (choice', none, verdict, lists) (refl, refl)
 
 -- OVER A SHEET: its own refusal, or what its joints and lists give
-pub sheet_refused : (s later : List ℕ) {k : ℕ} → (sheet_fault s ≡ k) × (1 ≤ k) → first_fault (sheet_fault s ∷ later) ≡ k
-sheet_refused s later h = fault_stops (sheet_fault s) later (λ z. omega (arith, h.0, h.1)) ∙ h.0
+pub sheet_refused : (s later : List ℕ) (r : Refusal) → reading_of s ≡ Err r → number_of r ≡ first_fault (sheet_fault s ∷ later)
+sheet_refused s later r h =
+    let e = read_refused s r h in
+    e ∙ sym (fault_stops (sheet_fault s) later (λ z. omega (arith, e, z, number_some r)))
 
 module _ (s : List ℕ) (c : Says) where
-  pub settled_accepted : (out : List ℕ) {r : Settled} {after : List ℕ} → sheet_fault s ≡ 0 → SettledSo c out r after → SettledSo (on_sheet s c) out r after
+  pub settled_accepted : (out : List ℕ) {r : Result End Refusal} {after : List ℕ} → sheet_fault s ≡ 0 → SettledSo c out r after → SettledSo (on_sheet s c) out r after
   settled_accepted out f h = rw (fault_passes (sheet_fault s) c.faults f) h
 
-  pub shortened_accepted : (out : List ℕ) {r : Shortened} {after : List ℕ} → sheet_fault s ≡ 0 → ShortenedSo c out r after → ShortenedSo (on_sheet s c) out r after
+  pub shortened_accepted : (out : List ℕ) {r : Result (Option ℕ) Refusal} {after : List ℕ} → sheet_fault s ≡ 0 → ShortenedSo c out r after → ShortenedSo (on_sheet s c) out r after
   shortened_accepted out f h = rw (fault_passes (sheet_fault s) c.faults f) h
 
 -- THE COUNTS
@@ -133,34 +141,45 @@ module _ (whole : Bool) (s cs : List ℕ) where
   abbrev end : Outcome
   end = worked_by whole (joints s) (square_of s) cs
 
-  pub counts_refused : {k : ℕ} → (sheet_fault s ≡ k) × (1 ≤ k) → counts k 0 0 ≡ counts_of whole s cs
-  counts_refused {k} h = rw (last_fault (sheet_fault s), h.0) (sym (counts_or k end h.1))
+  pub counts_refused : (r : Refusal) → reading_of s ≡ Err r → record { refusal = Some r; proposals = 0; cuts = 0 } ≡ counts_of whole s cs
+  counts_refused r h =
+      let e = read_refused s r h in
+      rw (last_fault (sheet_fault s), ← e)
+      (sym (counts_or (number_of r) end (number_some r) ∙ ap (λ (o : Option Refusal). record { refusal = o; proposals = 0; cuts = 0 }) (refusal_back r)))
 
   pub counts_accepted : sheet_fault s ≡ 0 → {r : Counts} → r ≡ end_counts end → r ≡ counts_of whole s cs
   counts_accepted f h = rw (last_fault (sheet_fault s), f) h
 
--- .. as the front door opened it: with its parts, and the square t filled
-module _ (s : List ℕ) (parts : Parts) (t : Square) (known : ListsAs s parts t) where
-  abbrev read : ReadAs s parts
-  read = known.read
+-- .. with n joints, m entries and the square t, as they were read
+pub record ReadWith (s : List ℕ) (n m : ℕ) (t : Square) : Type 0 where
+  pub faultless : sheet_fault s ≡ 0
+  pub joints_are : n ≡ joints s
+  pub entries_are : m ≡ rank_count s
+  pub square_is : t ≡ square_of s
 
-  pub read_entries : (entry_count parts.joints t ≤ parts.entries) × (parts.entries ≤ 128 * 127)
+pub read_with : (s : List ℕ) (read : Sheet) → ReadsAs s read → ReadWith s read.rankings.joints.count read.parts.entries read.rankings.bands
+read_with s read h =
+    let parts = reads s read h in
+    record { faultless = parts.faultless; joints_are = h.joints_are; entries_are = parts.m_entries; square_is = h.square_is }
+
+module _ (s : List ℕ) (n m : ℕ) (t : Square) (known : ReadWith s n m t) where
+  pub read_entries : (entry_count n t ≤ m) × (m ≤ 128 * 127)
   read_entries =
-      rw (known.square, read.n_joints, read.m_entries)
-      (let all = all_listed s read.faultless in let half = pairs_half s read.faultless in omega arith, (accepted_sizes s read.faultless).most_entries)
+      rw (known.square_is, known.joints_are, known.entries_are)
+      (let all = all_listed s known.faultless in let half = pairs_half s known.faultless in omega arith, (accepted_sizes s known.faultless).most_entries)
 
-  pub settle_read : (cs out : List ℕ) {r : Settled} {after : List ℕ} → SettledSo (settling parts.joints t cs out) out r after
+  pub settle_read : (cs out : List ℕ) {r : Result End Refusal} {after : List ℕ} → SettledSo (settling n t cs out) out r after
       → SettledSo (settle_call s cs out) out r after
-  settle_read cs out h = settled_accepted s (settling (joints s) (square_of s) cs out) out read.faultless (rw (known.square, read.n_joints) at h)
+  settle_read cs out h = settled_accepted s (settling (joints s) (square_of s) cs out) out known.faultless (rw (known.square_is, known.joints_are) at h)
 
-  pub shorten_read : (cs out : List ℕ) {r : Shortened} {after : List ℕ} → ShortenedSo (shortening parts.joints parts.entries t cs out) out r after
+  pub shorten_read : (cs out : List ℕ) {r : Result (Option ℕ) Refusal} {after : List ℕ} → ShortenedSo (shortening n m t cs out) out r after
       → ShortenedSo (shorten_call s cs out) out r after
   shorten_read cs out h =
-      shortened_accepted s (shortening (joints s) (rank_count s) (square_of s) cs out) out read.faultless
-      (rw (known.square, read.n_joints, read.m_entries) at h)
+      shortened_accepted s (shortening (joints s) (rank_count s) (square_of s) cs out) out known.faultless
+      (rw (known.square_is, known.joints_are, known.entries_are) at h)
 
-  pub counts_read : (whole : Bool) (cs : List ℕ) {r : Counts} → r ≡ end_counts (worked_by whole parts.joints t cs) → r ≡ counts_of whole s cs
-  counts_read whole cs h = counts_accepted whole s cs read.faultless (rw (known.square, read.n_joints) at h)
+  pub counts_read : (whole : Bool) (cs : List ℕ) {r : Counts} → r ≡ end_counts (worked_by whole n t cs) → r ≡ counts_of whole s cs
+  counts_read whole cs h = counts_accepted whole s cs known.faultless (rw (known.square_is, known.joints_are) at h)
 
 -- HOW MUCH there is to write and to count
 -- the writer's count, taken from the bytes that it wrote

@@ -1,6 +1,8 @@
 -- What the calls settle, shorten and counts answer, and the buffer after them, for every input.
-use Rattle.std.specs.Prelude.{Bool, List, [], ◌∷◌, ℕ, zero, suc, ◌+◌, ◌*◌, ltb, length}
+use Rattle.std.specs.Prelude.{Bool, List, [], ◌∷◌, Option, Some, None, Result, ℕ, zero, suc, ◌+◌, ◌*◌, ltb, length}
 use Rattle.base.specs.Faults.{when, first_fault}
+use Rattle.refusals.specs.declared.Refusal.{Refusal}
+use Rattle.refusals.specs.Numbers.{refusal_of, answered}
 use Rattle.sheet.specs.Format.{joints, rank_count}
 use Rattle.sheet.specs.Refusals.{sheet_fault}
 use Rattle.sheet.specs.Square.{square_of}
@@ -12,13 +14,10 @@ use Rattle.records.specs.Records.{worked_by, settles_by, shortens_by}
 use Rattle.roommates.specs.declared.Stage.{Stage}
 use Rattle.roommates.specs.declared.Stage.TheVariants.{Proposing, Cutting, NoneOne, NoneTwo, Paired}
 use Rattle.matching.specs.Matchings.{pair_count}
-use Rattle.calls.specs.declared.Settled.{Settled}
-use Rattle.calls.specs.declared.Shortened.{Shortened}
+use Rattle.calls.specs.declared.End.{End}
 use Rattle.calls.specs.declared.Counts.{Counts}
 use Rattle.calls.specs.declared.Phase.TheVariants as P
 use Rattle.calls.specs.declared.End.TheVariants as E
-use Rattle.calls.specs.declared.Settled.TheVariants as S
-use Rattle.calls.specs.declared.Shortened.TheVariants as L
 
 -- WHAT A CALL SAYS: its refusals in their order (0 for one that does not apply), the stage of its working, which is its verdict where
 -- it has ended, the count beside a result, and the result's bytes.
@@ -71,46 +70,34 @@ settle_call s cs out = on_sheet s (settle_says (joints s) (square_of s) cs (leng
 abbrev pub shorten_call : List ℕ → List ℕ → List ℕ → Says
 shorten_call s cs out = on_sheet s (shorten_says (joints s) (rank_count s) (square_of s) cs (length out))
 
--- THE ANSWER, by the first refusal (0 for none), the verdict and the count. A working that was not refused has ended, so the answer to one
+-- THE ANSWER: the first refusal, or by the verdict and the count. A working that was not refused has ended, so the answer to one
 -- that goes on is never given.
-abbrev pub ended_as : Stage → ℕ → Settled
-ended_as Proposing count = S.Refused 0
-ended_as Cutting count = S.Refused 0
-ended_as NoneOne count = S.Ended (E.None P.One)
-ended_as NoneTwo count = S.Ended (E.None P.Two)
-ended_as Paired count = S.Ended (E.Paired count)
+abbrev pub ended_as : Stage → ℕ → End
+ended_as Proposing count = E.None P.Two
+ended_as Cutting count = E.None P.Two
+ended_as NoneOne count = E.None P.One
+ended_as NoneTwo count = E.None P.Two
+ended_as Paired count = E.Paired count
 
-abbrev pub settled_as : ℕ → Stage → ℕ → Settled
-settled_as zero verdict count = ended_as verdict count
-settled_as (suc k) verdict count = S.Refused (suc k)
+abbrev pub settled_as : ℕ → Stage → ℕ → Result End Refusal
+settled_as fault verdict count = answered fault (ended_as verdict count)
 
 -- shorten's none is always in phase one
-abbrev pub listed_as : Stage → ℕ → Shortened
-listed_as Proposing count = L.Refused 0
-listed_as Cutting count = L.Refused 0
-listed_as NoneOne count = L.None
-listed_as NoneTwo count = L.None
-listed_as Paired count = L.Lists count
+abbrev pub listed_as : Stage → ℕ → Option ℕ
+listed_as Proposing count = None
+listed_as Cutting count = None
+listed_as NoneOne count = None
+listed_as NoneTwo count = None
+listed_as Paired count = Some count
 
-abbrev pub shortened_as : ℕ → Stage → ℕ → Shortened
-shortened_as zero verdict count = listed_as verdict count
-shortened_as (suc k) verdict count = L.Refused (suc k)
+abbrev pub shortened_as : ℕ → Stage → ℕ → Result (Option ℕ) Refusal
+shortened_as fault verdict count = answered fault (listed_as verdict count)
 
-abbrev pub settled_by : Says → Settled
+abbrev pub settled_by : Says → Result End Refusal
 settled_by c = settled_as (first_fault c.faults) c.verdict c.count
 
-abbrev pub shortened_by : Says → Shortened
+abbrev pub shortened_by : Says → Result (Option ℕ) Refusal
 shortened_by c = shortened_as (first_fault c.faults) c.verdict c.count
-
--- the number of an answer's refusal, 0 where nothing is refused
-abbrev pub settled_number : Settled → ℕ
-settled_number (S.Ended e) = 0
-settled_number (S.Refused k) = k
-
-abbrev pub shortened_number : Shortened → ℕ
-shortened_number L.None = 0
-shortened_number (L.Lists k) = 0
-shortened_number (L.Refused k) = k
 
 -- THE BUFFER after the call: only a result is written
 abbrev pub result_over : Stage → List ℕ → List ℕ → List ℕ
@@ -128,13 +115,13 @@ abbrev pub left_by : Says → List ℕ → List ℕ
 left_by c out = left_as (first_fault c.faults) c.verdict c.bytes out
 
 -- the calls over a sheet: what they answer, and the buffer after them
-abbrev pub settle_answer : List ℕ → List ℕ → List ℕ → Settled
+abbrev pub settle_answer : List ℕ → List ℕ → List ℕ → Result End Refusal
 settle_answer s cs out = settled_by (settle_call s cs out)
 
 abbrev pub settle_bytes : List ℕ → List ℕ → List ℕ → List ℕ
 settle_bytes s cs out = left_by (settle_call s cs out) out
 
-abbrev pub shorten_answer : List ℕ → List ℕ → List ℕ → Shortened
+abbrev pub shorten_answer : List ℕ → List ℕ → List ℕ → Result (Option ℕ) Refusal
 shorten_answer s cs out = shortened_by (shorten_call s cs out)
 
 abbrev pub shorten_bytes : List ℕ → List ℕ → List ℕ → List ℕ
@@ -142,7 +129,7 @@ shorten_bytes s cs out = left_by (shorten_call s cs out) out
 
 -- COUNTS. The proposals and cuts of a working, beside its end or beside a refused record; 0 and 0 where a refusal comes before the first.
 abbrev pub counts : ℕ → ℕ → ℕ → Counts
-counts number made cut = record { number = number; proposals = made; cuts = cut }
+counts fault made cut = record { refusal = refusal_of fault; proposals = made; cuts = cut }
 
 abbrev pub end_counts : Outcome → Counts
 end_counts e = counts e.refusal e.work_is.proposals e.work_is.cuts

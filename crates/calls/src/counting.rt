@@ -1,23 +1,23 @@
 // The counts of a working.
 ghost use Rattle.std.specs.Prelude.{◌≡◌};
-ghost use Rattle.sheet.specs.Square.{SquarePromise};
 ghost use Rattle.records.specs.Records.{worked_by};
 ghost use Rattle.calls.specs.Calls.{end_counts, counts_of};
 
 use crate::Counts;
-use sheet::Reading;
-use steering::working;
+use sheet::Rankings;
+use stages::Working;
+use steering::steer;
 
-fn count_lists(n: usize, bands: [[u8; 128]; 128], choices: &[u8], whole: bool) -> Counts
-    requires { SquarePromise n bands }
-    ensures { result ≡ end_counts (worked_by whole n bands choices.now) }
+// `whole` is a flag, as C's call has it.
+fn count_lists(rankings: &Rankings, choices: &[u8], whole: bool) -> Counts
+    ensures { result ≡ end_counts (worked_by whole rankings.now.joints.count rankings.now.bands choices.now) }
 {
-    let mut left = [[0u8; 128]; 128];
-    let end = working(n, bands, choices, whole, &mut left);
+    let mut working = Working::begin(rankings.joints, &rankings.bands, whole);
+    let steered = steer(&mut working, choices);
     Counts {
-        number: end.refusal,
-        proposals: end.proposals as u32,
-        cuts: end.cuts as u32,
+        refusal: steered.err(),
+        proposals: working.made.proposals as u32,
+        cuts: working.cuts as u32,
     }
 }
 
@@ -25,14 +25,12 @@ fn count_lists(n: usize, bands: [[u8; 128]; 128], choices: &[u8], whole: bool) -
 pub fn count_working(sheet: &[u8], choices: &[u8], whole: bool) -> Counts
     ensures { result ≡ counts_of whole sheet.now choices.now }
 {
-    let mut bands = [[0u8; 128]; 128];
-    let found = sheet::lists(sheet, &mut bands);
-    match found {
-        Reading::Refused(number) => Counts {
-            number: number,
+    match sheet::read(sheet) {
+        Ok(read) => count_lists(&read.rankings, choices, whole),
+        Err(refusal) => Counts {
+            refusal: Some(refusal),
             proposals: 0,
             cuts: 0,
         },
-        Reading::Accepted(parts) => count_lists(parts.joints, bands, choices, whole),
     }
 }

@@ -5,6 +5,8 @@ pub mod counting;
 pub mod settling;
 pub mod shortening;
 
+use refusals::Refusal;
+
 // The phase of a working that ended in none.
 #[derive(Clone, Copy)]
 pub enum Phase {
@@ -12,32 +14,17 @@ pub enum Phase {
     Two,
 }
 
-// The end of a working: none, with its phase, or a pairing with its count of pairs.
+// The end of a working: none, with its phase, or a pairing with its count of pairs. None is no error, so this is no Result.
 #[derive(Clone, Copy)]
 pub enum End {
     None(Phase),
     Paired(u32),
 }
 
-// What settle answers: the end of its working, or the number of a refusal.
-#[derive(Clone, Copy)]
-pub enum Settled {
-    Ended(End),
-    Refused(u8),
-}
-
-// What shorten answers: none, lists with their count of entries, or the number of a refusal.
-#[derive(Clone, Copy)]
-pub enum Shortened {
-    None,
-    Lists(u32),
-    Refused(u8),
-}
-
-// The counts of a working, beside the number of a refusal (0 for none).
+// The counts of a working, beside the refusal of a choice or of the sheet if there is one.
 #[derive(Clone, Copy)]
 pub struct Counts {
-    pub number: u8,
+    pub refusal: Option<Refusal>,
     pub proposals: u32,
     pub cuts: u32,
 }

@@ -2,180 +2,127 @@
 // answers for the example pairings to what is reasoned, and what import writes for each hierarchy to the sheet beside it.
 #![tactic(auto)]
 
-ghost use Rattle.io.specs.Counts.{IsPrefixLen};
-
-use bvh::{Imported, import};
+use arrayvec::ArrayVec;
+use bvh::import;
 use quote::{Quoted, quote};
-use skeleton::{Followed, follow};
-use std::fs;
-use std::io::Read;
+use skeleton::follow;
 use std::rt::Files;
+use std::{fs, io};
 
-// What one read puts at the start of the bytes: nothing, where it fails.
-fn read_some(file: &mut impl Read, bytes: &mut [u8]) -> usize
-    ensures { IsPrefixLen result bytes.new }
-{
-    match file.read(bytes) {
-        Ok(count) => count,
-        Err(_) => 0,
+// Whole sheets and hierarchies, and what is shorter.
+type Large = ArrayVec<u8, 65536>;
+
+type Small = ArrayVec<u8, 4096>;
+
+// What a file holds, up to a failure or as much as there is room for; nothing where it cannot be opened.
+fn read<const ROOM: usize>(rt: &impl Files, path: &str, bytes: &mut ArrayVec<u8, ROOM>) {
+    if let Ok(mut file) = fs::open(rt, path) {
+        let _ = io::copy(&mut file, bytes);
     }
 }
 
-// Reads until the bytes are full, the file ends or a read fails.
-fn read_full(file: &mut impl Read, bytes: &mut [u8]) -> usize
-    ensures { IsPrefixLen result bytes.new }
+// A long file and a short one, judged together.
+fn judge<F: FnOnce(&[u8], &[u8]) -> bool>(
+    rt: &impl Files,
+    long: &str,
+    short: &str,
+    is_so: F,
+) -> &'static str
+    requires { F.IsAlwaysCallable is_so }
 {
-    let mut size = 0;
-    while size < bytes.len() {
-        let count = read_some(file, &mut bytes[size..]);
-        if count == 0 {
-            break;
-        }
-        size += count;
-    }
-    size
-}
-
-// Reads a file, or nothing where it cannot be opened.
-fn read_file<R: Files>(rt: &R, path: &str, bytes: &mut [u8]) -> usize
-    ensures { IsPrefixLen result bytes.new }
-{
-    match fs::open(rt, path) {
-        Ok(mut file) => read_full(&mut file, bytes),
-        Err(_) => 0,
-    }
-}
-
-fn is_as_expected(rt: &impl Files, sheet_path: &str, text_path: &str) -> bool {
-    let mut sheet = io::large_buffer();
-    let size = read_file(rt, sheet_path, &mut sheet);
-    let mut expected = io::buffer();
-    let expected_size = read_file(rt, text_path, &mut expected);
-    let mut text = [0u8; 4400];
-    let length = listing::list_sheet(&sheet[..size], &mut text);
-    check::same(&text[..length], &expected[..expected_size])
-}
-
-fn say(as_expected: bool) {
-    if as_expected {
-        io::write_all(1, b": as expected\n");
+    let mut first = Large::new();
+    read(rt, long, &mut first);
+    let mut second = Small::new();
+    read(rt, short, &mut second);
+    if is_so(&first, &second) {
+        "as expected"
     } else {
-        io::write_all(1, b": NOT as expected\n");
+        "NOT as expected"
     }
 }
 
-fn try_example(rt: &impl Files, sheet_path: &str, text_path: &str) {
-    io::write_all(1, sheet_path.as_bytes());
-    say(is_as_expected(rt, sheet_path, text_path));
+// Is the text what mirror prints for a sheet?
+fn is_listed(sheet: &[u8], expected: &[u8]) -> bool {
+    let mut text = [0u8; 4400];
+    let length = listing::list_sheet(sheet, &mut text);
+    &text[..length] == expected
 }
 
-// Is the payable sum as expected?
-fn is_priced(answer: Quoted, expected: u64) -> bool {
-    match answer {
-        Quoted::Payable(sum) => sum == expected,
-        _ => false,
+// The sum that is payable by a tariff, without choices.
+fn payable(sheet: &[u8], tariff: &[u8], rebate: u32) -> Option<u64> {
+    match quote(sheet, b"", tariff, rebate) {
+        Ok(Quoted::Payable(sum)) => Some(sum),
+        _ => None,
     }
 }
 
-fn is_quoted(
-    rt: &impl Files,
-    sheet_path: &str,
-    tariff_path: &str,
-    rebate: u32,
-    expected: u64,
-) -> bool {
-    let mut sheet = io::large_buffer();
-    let size = read_file(rt, sheet_path, &mut sheet);
-    let mut tariff = io::buffer();
-    let tariff_size = read_file(rt, tariff_path, &mut tariff);
-    let answer = quote(&sheet[..size], b"", &tariff[..tariff_size], rebate);
-    is_priced(answer, expected)
-}
-
-fn try_quote(rt: &impl Files, sheet_path: &str, tariff_path: &str, rebate: u32, expected: u64) {
-    io::write_all(1, sheet_path.as_bytes());
-    io::write_all(1, b" by ");
-    io::write_all(1, tariff_path.as_bytes());
-    say(is_quoted(rt, sheet_path, tariff_path, rebate, expected));
-}
-
-// So many pairs do not follow, and the lowest of their numbers is as expected; none and 0 where all follow.
-fn is_following(answer: Followed, pairs: u32, lowest: u32) -> bool {
-    match answer {
-        Followed::Refused(_) => false,
-        Followed::All => pairs == 0,
-        Followed::Astray(strays) => {
-            if strays.pairs == pairs {
-                strays.lowest == lowest
-            } else {
-                false
-            }
-        }
+// How many pairs do not follow, and the lowest of their numbers; none and 0 where all follow.
+fn strays(sheet: &[u8], pairing: &[u8]) -> Option<(u32, u32)> {
+    match follow(sheet, pairing) {
+        Err(_) => None,
+        Ok(None) => Some((0, 0)),
+        Ok(Some(strays)) => Some((strays.pairs, strays.lowest)),
     }
 }
 
-fn is_followed(
-    rt: &impl Files,
-    sheet_path: &str,
-    pairing_path: &str,
-    pairs: u32,
-    lowest: u32,
-) -> bool {
-    let mut sheet = io::large_buffer();
-    let size = read_file(rt, sheet_path, &mut sheet);
-    let mut pairing = io::buffer();
-    let pairing_size = read_file(rt, pairing_path, &mut pairing);
-    let answer = follow(&sheet[..size], &pairing[..pairing_size]);
-    is_following(answer, pairs, lowest)
-}
-
-fn try_follow(rt: &impl Files, sheet_path: &str, pairing_path: &str, pairs: u32, lowest: u32) {
-    io::write_all(1, sheet_path.as_bytes());
-    io::write_all(1, b" with ");
-    io::write_all(1, pairing_path.as_bytes());
-    say(is_followed(rt, sheet_path, pairing_path, pairs, lowest));
-}
-
-// Is the sheet that import writes the expected one?
-fn becomes(text: &[u8], expected: &[u8]) -> bool {
+// Is the sheet what import writes for a hierarchy?
+fn is_imported(text: &[u8], expected: &[u8]) -> bool {
     let mut sheet = [0u8; 2180];
-    let answer = import(text, &mut sheet);
-    let Imported::Sheet(length) = answer else {
-        return false;
-    };
-    check::same(&sheet[..length], expected)
+    match import(text, &mut sheet) {
+        Ok(length) => sheet.get(..length) == Some(expected),
+        Err(_) => false,
+    }
 }
 
-fn is_imported(rt: &impl Files, text_path: &str, sheet_path: &str) -> bool {
-    let mut text = io::large_buffer();
-    let size = read_file(rt, text_path, &mut text);
-    let mut sheet = io::buffer();
-    let sheet_size = read_file(rt, sheet_path, &mut sheet);
-    becomes(&text[..size], &sheet[..sheet_size])
-}
+const LISTED: [(&str, &str); 8] = [
+    ("row-a.sheet", "row-a.txt"),
+    ("row-e.sheet", "row-e.txt"),
+    ("row-f.sheet", "row-f.txt"),
+    ("row-g.sheet", "row-g.txt"),
+    ("fox.sheet", "fox.txt"),
+    ("one-sided.sheet", "one-sided.txt"),
+    ("refused.sheet", "refused.txt"),
+    ("thumb.sheet", "thumb.txt"),
+];
 
-fn try_import(rt: &impl Files, text_path: &str, sheet_path: &str) {
-    io::write_all(1, text_path.as_bytes());
-    io::write_all(1, b" to ");
-    io::write_all(1, sheet_path.as_bytes());
-    say(is_imported(rt, text_path, sheet_path));
-}
+// The fox's pairs are each of a left joint and its right one, so all follow. Where a thumb is mirrored to a toe, their parents are a wrist and
+// an ankle: joints 5 and 8, and 6 and 7, whose pair is number 7 × 6 ÷ 2 + 6.
+const FOLLOWED: [(&str, &str, (u32, u32)); 2] = [
+    ("fox.sheet", "fox.pairing", (0, 0)),
+    ("thumb.sheet", "thumb-to-toe.pairing", (2, 27)),
+];
 
-// The fox has ten pairs: three at 500 cents and seven at 300, less two and a half percent. Each is of a left joint and its right one, so all
-// follow. Where a thumb is mirrored to a toe, their parents are a wrist and an ankle: joints 5 and 8, and 6 and 7, whose pair is number
-// 7 × 6 ÷ 2 + 6.
-fn main(rt: HostRuntime) {
-    try_example(&rt, "row-a.sheet", "row-a.txt");
-    try_example(&rt, "row-e.sheet", "row-e.txt");
-    try_example(&rt, "row-f.sheet", "row-f.txt");
-    try_example(&rt, "row-g.sheet", "row-g.txt");
-    try_example(&rt, "fox.sheet", "fox.txt");
-    try_example(&rt, "one-sided.sheet", "one-sided.txt");
-    try_example(&rt, "refused.sheet", "refused.txt");
-    try_example(&rt, "thumb.sheet", "thumb.txt");
-    try_quote(&rt, "fox.sheet", "shop.tariff", 250, 3510);
-    try_follow(&rt, "fox.sheet", "fox.pairing", 0, 0);
-    try_follow(&rt, "thumb.sheet", "thumb-to-toe.pairing", 2, 27);
-    try_import(&rt, "biped.bvh", "biped.sheet");
-    try_import(&rt, "quadruped.bvh", "quadruped.sheet");
+const IMPORTED: [(&str, &str); 2] = [
+    ("biped.bvh", "biped.sheet"),
+    ("quadruped.bvh", "quadruped.sheet"),
+];
+
+fn main(rt: HostRuntime) -> io::Result<()> {
+    for (sheet, text) in LISTED {
+        println!(rt; "{sheet}: {}", judge(&rt, sheet, text, is_listed))?;
+    }
+    // The fox has ten pairs: three at 500 cents and seven at 300, less two and a half percent.
+    let priced = judge(
+        &rt,
+        "fox.sheet",
+        "shop.tariff",
+        |sheet, tariff| payable(sheet, tariff, 250) == Some(3510),
+    );
+    println!(rt; "fox.sheet by shop.tariff: {priced}")?;
+    for (sheet, pairing, due) in FOLLOWED {
+        let followed = judge(
+            &rt,
+            sheet,
+            pairing,
+            |sheet, pairing| strays(sheet, pairing) == Some(due),
+        );
+        println!(rt; "{sheet} with {pairing}: {followed}")?;
+    }
+    for (text, sheet) in IMPORTED {
+        println!(rt;
+            "{text} to {sheet}: {}",
+            judge(&rt, text, sheet, is_imported)
+        )?;
+    }
+    Ok(())
 }

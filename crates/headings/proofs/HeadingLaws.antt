@@ -1,48 +1,37 @@
 -- Laws of words met one after the other, and of what a word begins in a block.
-use mathlib.Core.Path.{◌≡◌}
+use mathlib.Core.Path.{◌≡◌, refl, ◌∙◌}
 use mathlib.Core.Bool.{Bool, cond}
 use mathlib.Core.List.{List}
 use mathlib.Core.Option.{Option, none, some, bind}
-use Prim.Native.Nat.{ℕ, ◌-◌, ◌≤◌}
-use native.Mathlib.Omega.{arith}
-use lib.ListN.{length, take, drop}
+use Prim.Native.Nat.{ℕ}
+use lib.Dec.{eqb}
+use lib.Pointwise.{pointwise}
+use denote.Ref.{Bor}
+use Rattle.std.specs.Prelude as found
+use Rattle.words.specs.Words.{Words, words}
+use Rattle.words.specs.Met.{Follows, Reaches}
 use Rattle.sections.specs.Labels.{same_bytes}
-use Rattle.words.specs.declared.Reached.{Reached}
-use Rattle.words.specs.declared.Reached.TheVariants.{At, Broken}
-use Rattle.words.specs.Words.{Words, words_at, word_at}
-use Rattle.words.specs.Met.{IsWord, Reaches}
+use Rattle.words.proofs.MetLaws.{pointwise_same, reaches_from}
 use Rattle.headings.specs.declared.Child.TheVariants.{Close, End, Joint, Other}
 use Rattle.headings.specs.Keywords.{end_word, joint_word, close_word}
 use Rattle.headings.specs.Headings.{child_of}
 
--- A CHAIN of words, from p on: where the first are met up to q, the rest decides from there
-module _ (s : List ℕ) (p : ℕ) (first : Option Words) where
-  pub met_at : {q : ℕ} {met : Reached} → met ≡ At q → Reaches s p met first → (first ≡ some (words_at s q)) × ((p ≤ q) × (q ≤ length s))
-  met_at e h = rw e at h
-
-  pub met_broken : {met : Reached} → met ≡ Broken → Reaches s p met first → first ≡ none
-  met_broken e h = rw e at h
-
-  pub chain_within : {q : ℕ} {met : Reached} → met ≡ At q → Reaches s p met first → q ≤ length s
-  chain_within e h = (met_at e h).1.1
-
-  pub chain_on : (rest : Words → Option Words) (r : Reached) {q : ℕ} {met : Reached}
-      → met ≡ At q → Reaches s p met first → Reaches s q r (rest (words_at s q)) → Reaches s p r (bind first rest)
+-- A CHAIN of words: where the first are met, the rest decides from what follows them; where they are not met, nothing is
+module _ (first : Option Words) (rest : Words → Option Words) where
+  pub chain_on : {s t : List ℕ} (r : found.Option (Bor (List ℕ))) → (first ≡ some (words t)) × Follows s t → Reaches t r (rest (words t))
+      → Reaches s r (bind first rest)
   unfolding bind
-  chain_on rest (At place) e h m = let told = met_at e h in (rw told.0 m.0, (omega arith, m.1.1))
-  chain_on rest Broken e h m = rw (met_at e h).0 m
+  chain_on r h m = reaches_from r h.1 (rw h.0) m
 
-  -- and where they are not met, nothing is
-  pub chain_broken : (rest : Words → Option Words) {met : Reached} → met ≡ Broken → Reaches s p met first → bind first rest ≡ none
+  pub chain_broken : first ≡ none → bind first rest ≡ none
   unfolding bind
-  chain_broken rest e h = rw (met_broken e h)
+  chain_broken e = rw e
 
 -- WHAT A WORD BEGINS, by the answers to the three tests; where the code makes no test, `refl` answers it
-module _ {s : List ℕ} {start end : ℕ} (word : IsWord s start end) where
-  abbrev bytes : List ℕ
-  bytes = take (end - start) (drop start s)
+pub test_is : (w : List ℕ) {key : List ℕ} {met : Bool} (word : List ℕ) → met ≡ pointwise eqb w key → key ≡ word → met ≡ same_bytes w word
+test_is w {key} word e k = e ∙ pointwise_same w key ∙ rw k refl
 
-  pub child_is : (closes ends nests : Bool) → closes ≡ same_bytes bytes close_word → ends ≡ same_bytes bytes end_word
-      → nests ≡ same_bytes bytes joint_word → cond closes Close (cond ends End (cond nests Joint Other)) ≡ child_of (word_at s start)
-  unfolding child_of
-  child_is closes ends nests c e n = rw (← word.bytes, c, e, n)
+pub child_is : (w : List ℕ) (closes ends nests : Bool) → closes ≡ same_bytes w close_word → ends ≡ same_bytes w end_word
+    → nests ≡ same_bytes w joint_word → cond closes Close (cond ends End (cond nests Joint Other)) ≡ child_of w
+unfolding child_of
+child_is w closes ends nests c e n = rw (c, e, n)

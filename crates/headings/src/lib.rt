@@ -1,12 +1,12 @@
 // What stands between a block's name and its children, and behind the word End. For the crates above, which prove what they require.
 #![tactic(auto)]
 
-ghost use Rattle.std.specs.Prelude.{◌≡◌, ◌≤◌, length};
-ghost use Rattle.words.specs.Words.{words_at, word_at};
-ghost use Rattle.words.specs.Met.{IsWord, Reaches};
+ghost use Rattle.std.specs.Prelude.{◌≡◌};
+ghost use Rattle.words.specs.Words.{words};
+ghost use Rattle.words.specs.Met.{Reaches};
 ghost use Rattle.headings.specs.Headings.{opening, heading, site, child_of};
 
-use words::{Reached, Word, any_words, counted_words, is_word, keyword_at};
+use words::{any_words, counted_words, keyword};
 
 // What a word in a block begins: the block's end, an End Site, a JOINT, or nothing that may stand there.
 #[derive(Clone, Copy)]
@@ -18,69 +18,44 @@ pub enum Child {
 }
 
 // Meets an opening brace, OFFSET and three words.
-fn opening_at(text: &[u8], at: usize) -> Reached
-    requires { at ≤ length text.now }
-    ensures { Reaches text.now at result (opening (words_at text.now at)) }
+fn opening(text: &[u8]) -> Option<&[u8]>
+    ensures { Reaches text.now result (opening (words text.now)) }
 {
-    let brace = keyword_at(text, at, b"{");
-    let Reached::At(opened) = brace else {
-        return Reached::Broken;
-    };
-    let offset = keyword_at(text, opened, b"OFFSET");
-    let Reached::At(numbers) = offset else {
-        return Reached::Broken;
-    };
-    any_words(text, numbers, 3)
+    let offset = keyword(text, b"{")?;
+    let numbers = keyword(offset, b"OFFSET")?;
+    any_words(numbers, 3)
 }
 
 // Meets what opens a block behind its name: a brace, the offset, the channels.
-pub fn heading_at(text: &[u8], at: usize) -> Reached
-    requires { at ≤ length text.now }
-    ensures { Reaches text.now at result (heading (words_at text.now at)) }
+pub fn heading(text: &[u8]) -> Option<&[u8]>
+    ensures { Reaches text.now result (heading (words text.now)) }
 {
-    let opened = opening_at(text, at);
-    let Reached::At(inside) = opened else {
-        return Reached::Broken;
-    };
-    let channels = keyword_at(text, inside, b"CHANNELS");
-    let Reached::At(count) = channels else {
-        return Reached::Broken;
-    };
-    counted_words(text, count)
+    let channels = opening(text)?;
+    let count = keyword(channels, b"CHANNELS")?;
+    counted_words(count)
 }
 
 // Meets an End Site behind the word End.
-pub fn site_at(text: &[u8], at: usize) -> Reached
-    requires { at ≤ length text.now }
-    ensures { Reaches text.now at result (site (words_at text.now at)) }
+pub fn site(text: &[u8]) -> Option<&[u8]>
+    ensures { Reaches text.now result (site (words text.now)) }
 {
-    let word = keyword_at(text, at, b"Site");
-    let Reached::At(brace) = word else {
-        return Reached::Broken;
-    };
-    let opened = opening_at(text, brace);
-    let Reached::At(inside) = opened else {
-        return Reached::Broken;
-    };
-    keyword_at(text, inside, b"}")
+    let brace = keyword(text, b"Site")?;
+    let close = opening(brace)?;
+    keyword(close, b"}")
 }
 
 // What a word begins in a block.
-pub fn child_of(text: &[u8], word: Word) -> Child
-    requires { IsWord text.now word.start word.end }
-    ensures { result ≡ child_of (word_at text.now word.start) }
+pub fn child_of(word: &[u8]) -> Child
+    ensures { result ≡ child_of word.now }
 {
-    let closes = is_word(text, word, b"}");
-    if closes {
-        return Child::Close;
+    // no match: on byte strings it tests byte by byte, and its proof has a case for each byte
+    if word == b"}".as_slice() {
+        Child::Close
+    } else if word == b"End".as_slice() {
+        Child::End
+    } else if word == b"JOINT".as_slice() {
+        Child::Joint
+    } else {
+        Child::Other
     }
-    let ends = is_word(text, word, b"End");
-    if ends {
-        return Child::End;
-    }
-    let nests = is_word(text, word, b"JOINT");
-    if nests {
-        return Child::Joint;
-    }
-    Child::Other
 }

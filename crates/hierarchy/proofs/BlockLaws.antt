@@ -1,24 +1,24 @@
 -- A block in the steps of its reader: one law for each way out.
-use mathlib.Core.Path.{◌≡◌, refl, sym, ◌∙◌}
-use mathlib.Core.List.{List}
+use mathlib.Core.Path.{◌≡◌, refl, ap, ◌∙◌}
+use mathlib.Core.List.{List, [], ◌∷◌, ◌++◌, map-append}
 use mathlib.Core.Option.{none, some}
-use Prim.Native.Nat.{ℕ, ◌+◌, ◌≤◌, ◌<◌}
-use native.Mathlib.Numerals.{add-one}
+use Prim.Native.Nat.{ℕ, ◌≤◌}
 use native.Mathlib.Omega.{arith}
-use lib.ListN.{length, set, length-set}
-use lib.Seq.{take-suc-set}
+use lib.ListN.{length, length-map}
+use denote.Ref.{Bor}
+use Rattle.std.specs.Prelude.{Result, Ok, Err}
 use Rattle.base.proofs.Faults.{fault_passes, last_fault}
-use Rattle.words.specs.Words.{Words, words_at, word_at}
-use Rattle.words.specs.Met.{NextWord}
+use Rattle.refusals.specs.declared.Refusal.{Refusal}
+use Rattle.words.specs.Words.{Words, words}
+use Rattle.words.specs.Met.{NextWord, Follows}
+use Rattle.words.proofs.MetLaws.{next_follows, follows_on, follows_length}
+use Rattle.names.specs.declared.joints.NamedJoint.{NamedJoint}
 use Rattle.names.specs.Names.{name_fault, names_fault}
-use Rattle.names.specs.Kept.{names_at}
-use Rattle.names.proofs.NameLaws.{names_more, name_room}
-use Rattle.names.proofs.KeptLaws.{names_length, placed_more, names_more_at}
-use Rattle.hierarchy.specs.declared.Progress.{Progress}
-use Rattle.hierarchy.specs.declared.Progress.TheVariants.{Read, Refused}
+use Rattle.names.specs.Kept.{kept_names}
+use Rattle.names.proofs.NameLaws.{names_more}
 use Rattle.headings.specs.Headings.{heading}
 use Rattle.hierarchy.specs.Hierarchy.{Joints, named, Met, broken, behind, block, children, met_fault}
-use Rattle.hierarchy.specs.Gathered.{gathered, Ready, Answers, Answered}
+use Rattle.hierarchy.specs.Gathered.{gathered, Answers, Answered}
 use Rattle.hierarchy.proofs.Growth.{Grows, named_fault}
 
 -- where the form is broken behind good names
@@ -26,77 +26,60 @@ pub broken_fault : (js : Joints) → names_fault js.names ≡ 0 → met_fault (b
 unfolding met_fault
 broken_fault js h = fault_passes _ _ h ∙ last_fault 19
 
--- an answer stays one from an earlier place on
-pub from_earlier : (s : List ℕ) (p q : ℕ) (r : Progress) (starts parents : List ℕ) (met : Met) → p ≤ q → Answers s q r starts parents met
-    → Answers s p r starts parents met
-from_earlier s p q (Read spot) starts parents met h a = record { ready = a.ready; onward = let on = a.onward in omega arith; says = a.says }
-from_earlier s p q (Refused k) starts parents met h a = a
+-- an answer in what follows is one in the text
+pub from_behind : {s t : List ℕ} (r : Result (Bor (List ℕ)) Refusal) (joints : List NamedJoint) (met : Met) → Follows s t → Answers t r joints met
+    → Answers s r joints met
+from_behind (Ok rest) joints met h a = record { good = a.good; follows = follows_on h a.follows; says = a.says }
+from_behind (Err refusal) joints met h a = a
 
-module _ {s : List ℕ} {place k : ℕ} {starts parents : List ℕ} (ready : Ready s place k starts parents)
-    {start end : ℕ} (next : NextWord s place start end) (above : ℕ) where
+module _ (joints : List NamedJoint) (good : names_fault (kept_names joints) ≡ 0) where
   abbrev js : Joints
-  js = gathered s k starts parents
-
-  abbrev more : Joints
-  more = named js (word_at s start) above
+  js = gathered joints
 
   -- no name is left
-  pub block_ended : (inside : ℕ → Words → Joints → Met) → start ≡ end → met_fault (block inside above (words_at s place) js) ≡ 19
+  pub block_ended : (inside : ℕ → Words → Joints → Met) (above : ℕ) (s : List ℕ) → words s ≡ [] → met_fault (block inside above (words s) js) ≡ 19
   unfolding block
-  block_ended inside e = rw (next.nothing e) (broken_fault js ready.good)
+  block_ended inside above s e = rw e (broken_fault js good)
 
-  module _ (inside : ℕ → Words → Joints → Met) (some_word : start ≡ end → ⊥) {fault : ℕ} (e : fault ≡ name_fault (names_at s k starts) (word_at s start)) where
-    behind_name : block inside above (words_at s place) js ≡ behind (heading (words_at s end)) more (λ on. inside (length js.names) on more)
-    unfolding block
-    behind_name = let up = next.word.upward in rw (next.ahead (omega arith)) refl
+  module _ (joint : NamedJoint) {s rest : List ℕ} (next : NextWord s joint.name.now rest) where
+    abbrev more : Joints
+    more = named js joint.name.now joint.parent
 
-    more_fault : names_fault more.names ≡ fault
-    more_fault = names_more (names_at s k starts) (word_at s start) ∙ fault_passes _ _ ready.good ∙ last_fault _ ∙ sym e
+    more_fault : names_fault more.names ≡ name_fault (kept_names joints) joint.name.now
+    more_fault = names_more (kept_names joints) joint.name.now ∙ fault_passes _ _ good ∙ last_fault _
 
-    -- the name is refused
-    pub block_refused : ((own : ℕ) (ws : Words) (ks : Joints) → Grows ks (inside own ws ks)) → (fault ≡ 0 → ⊥)
-        → (met_fault (block inside above (words_at s place) js) ≡ fault) × (1 ≤ fault)
-    block_refused grows bad = (rw behind_name (named_fault (heading (words_at s end)) more _ (λ on. grows _ on more) more_fault (omega arith)), omega arith)
+    module _ (inside : ℕ → Words → Joints → Met) where
+      behind_name : block inside joint.parent (words s) js ≡ behind (heading (words rest)) more (λ on. inside (length js.names) on more)
+      unfolding block
+      behind_name = rw next.ahead refl
 
-    module _ (good : fault ≡ 0) where
+      -- the name is refused
+      pub block_refused : ((own : ℕ) (ws : Words) (ks : Joints) → Grows ks (inside own ws ks)) → {k : ℕ} → name_fault (kept_names joints) joint.name.now ≡ k
+          → 1 ≤ k → met_fault (block inside joint.parent (words s) js) ≡ k
+      block_refused grows e l = rw behind_name (named_fault (heading (words rest)) more _ (λ on. grows _ on more) (more_fault ∙ e) l)
+
       -- the form is broken behind the name
-      pub block_broken : heading (words_at s end) ≡ none → met_fault (block inside above (words_at s place) js) ≡ 19
+      pub block_broken : name_fault (kept_names joints) joint.name.now ≡ 0 → heading (words rest) ≡ none
+          → met_fault (block inside joint.parent (words s) js) ≡ 19
       unfolding behind
-      block_broken h = rw (behind_name, h) (broken_fault more (more_fault ∙ good))
+      block_broken fit h = rw (behind_name, h) (broken_fault more (more_fault ∙ fit))
 
-      pub block_few : k < 128
-      block_few = let n = names_length ready.placed in let room = name_room (names_at s k starts) (word_at s start) (sym e ∙ good) in omega arith
+    -- the name is gathered
+    module _ {added : List NamedJoint} (adds : added ≡ joints ++ (joint ∷ [])) where
+      gathered_more : gathered added ≡ more
+      gathered_more = rw (adds, map-append (λ j. j.name.now) joints (joint ∷ []), map-append (λ j. j.parent) joints (joint ∷ [])) refl
 
-      gathered_more : more ≡ gathered s (k + 1) (set starts k start) (set parents k above)
-      gathered_more =
-          let room = ready.room in
-          let names = names_more_at ready.placed start block_few in
-          let ps = take-suc-set parents k above (let few = block_few in omega arith) in
-          rw (names, add-one k, ps) refl
+      pub added_good : name_fault (kept_names joints) joint.name.now ≡ 0 → names_fault (kept_names added) ≡ 0
+      added_good fit = ap (λ (ks : Joints). names_fault ks.names) gathered_more ∙ more_fault ∙ fit
 
-      -- the name is gathered
-      pub block_ready : (p : ℕ) → p ≤ length s → Ready s p (k + 1) (set starts k start) (set parents k above)
-      block_ready p within =
-          record {
-            inside = within;
-            placed = placed_more ready.placed start block_few (let up = next.word.upward in let in-text = next.word.within in omega arith);
-            room = length-set parents k above ∙ ready.room;
-            good = rw (names_more_at ready.placed start block_few) (more_fault ∙ good);
-          }
-
-      block_inside : (p : ℕ) → heading (words_at s end) ≡ some (words_at s p)
-          → block inside above (words_at s place) js ≡ inside k (words_at s p) (gathered s (k + 1) (set starts k start) (set parents k above))
+      -- what its children's reader answers is its answer
+      pub block_answered : (deeper own : ℕ) → own ≡ length joints → {inside : List ℕ} → (heading (words rest) ≡ some (words inside)) × Follows rest inside
+          → (r : Result (Bor (List ℕ)) Refusal) (joints₁ : List NamedJoint) → Answered inside r joints₁ (λ f. children f deeper own (words inside) (gathered added))
+          → Answered s r joints₁ (λ f. block (children f deeper) joint.parent (words s) js)
       unfolding behind
-      block_inside p h = rw (behind_name, h, names_length ready.placed, gathered_more) refl
-
--- what its children's reader answers is its answer
-pub block_answered : {s : List ℕ} {place k : ℕ} {starts parents : List ℕ} (ready : Ready s place k starts parents) {start end : ℕ} (next : NextWord s place start end)
-    (above deeper : ℕ) (some_word : start ≡ end → ⊥) {fault : ℕ} → fault ≡ name_fault (names_at s k starts) (word_at s start) → fault ≡ 0
-    → (p : ℕ) → end ≤ p → heading (words_at s end) ≡ some (words_at s p) → (r : Progress) (starts₁ parents₁ : List ℕ)
-    → Answered s p r starts₁ parents₁ (λ f. children f deeper k (words_at s p) (gathered s (k + 1) (set starts k start) (set parents k above)))
-    → Answered s place r starts₁ parents₁ (λ f. block (children f deeper) above (words_at s place) (gathered s k starts parents))
-block_answered {s} {place} ready next above deeper some_word e good p past h r starts₁ parents₁ a f l =
-    let up = next.word.upward in
-    let from = next.onward in
-    from_earlier s place p r starts₁ parents₁ _ (omega arith)
-    (rw (block_inside ready next above (children f deeper) some_word e good p h) (a f (omega arith)))
+      block_answered deeper own k h r joints₁ a f l =
+          let in-text = follows_on (next_follows next) h.1 in
+          let short = follows_length in-text in
+          let n = length-map joints (λ j. j.name.now) in
+          let own-is : length js.names ≡ own = omega arith in
+          from_behind r joints₁ _ in-text (rw (behind_name (children f deeper), h.0, own-is, ← gathered_more) (a f (omega arith)))

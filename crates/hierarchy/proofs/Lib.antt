@@ -1,5 +1,6 @@
 -- Laws of reading, in the steps of the code; and the claims of specs/.
 mod Growth
+mod Asked
 mod BlockLaws
 mod Going
 mod TurnLaws

@@ -1,44 +1,35 @@
 -- Joints as the code gathers them, and what its readers answer.
-use Rattle.std.specs.Prelude.{◌≡◌, List, ℕ, ◌-◌, ◌≤◌, ◌<◌, length, take}
-use Rattle.words.specs.Words.{words_at}
+use Rattle.std.specs.Prelude.{◌≡◌, List, ℕ, ◌<◌, length, Result, Ok, Err}
+use Rattle.std.specs.Borrow.{Bor}
+use Rattle.refusals.specs.declared.Refusal.{Refusal}
+use Rattle.refusals.specs.Numbers.{number_of}
+use Rattle.words.specs.Words.{words}
+use Rattle.words.specs.Met.{Follows}
+use Rattle.names.specs.declared.joints.NamedJoint.{NamedJoint}
 use Rattle.names.specs.Names.{names_fault}
-use Rattle.names.specs.Kept.{names_at, Placed}
-use Rattle.hierarchy.specs.declared.Spot.{Spot}
-use Rattle.hierarchy.specs.declared.Progress.{Progress}
-use Rattle.hierarchy.specs.declared.Progress.TheVariants.{Read, Refused}
+use Rattle.names.specs.Kept.{kept_names, kept_parents}
 use Rattle.hierarchy.specs.Hierarchy.{Joints, Met, left, met_fault}
 
--- the first k joints, by the places of their names and by their parents
-abbrev pub gathered : List ℕ → ℕ → List ℕ → List ℕ → Joints
-gathered s k starts parents = record { names = names_at s k starts; parents = take k parents }
+-- the joints, by their names and by their parents
+abbrev pub gathered : List NamedJoint → Joints
+gathered joints = record { names = kept_names joints; parents = kept_parents joints }
 
--- at a place of the text, with k joints gathered, none of them with a fault
-pub record Ready (s : List ℕ) (place k : ℕ) (starts parents : List ℕ) : Type 0 where
-  pub inside : place ≤ length s
-  pub placed : Placed s k starts
-  pub room : length parents ≡ 128
-  pub good : names_fault (names_at s k starts) ≡ 0
+-- what a reader of the text s answers where this is met: what follows, whose words are left, and the joints, none of them with a fault
+pub record WasRead (s rest : List ℕ) (joints : List NamedJoint) (met : Met) : Type 0 where
+  pub good : names_fault (kept_names joints) ≡ 0
+  pub follows : Follows s rest
+  pub says : met ≡ left (words rest) (gathered joints)
 
--- what a reader that began at `place` answers where this is met: the words left and the joints, or the first fault
-pub record WasRead (s : List ℕ) (place : ℕ) (spot : Spot) (starts parents : List ℕ) (met : Met) : Type 0 where
-  pub ready : Ready s spot.at spot.joints starts parents
-  pub onward : place ≤ spot.at
-  pub says : met ≡ left (words_at s spot.at) (gathered s spot.joints starts parents)
+-- .. or the first fault
+abbrev pub Answers : List ℕ → Result (Bor (List ℕ)) Refusal → List NamedJoint → Met → Type 0
+Answers s (Ok rest) joints met = WasRead s rest.now joints met
+Answers s (Err refusal) joints met = met_fault met ≡ number_of refusal
 
-abbrev pub Answers : List ℕ → ℕ → Progress → List ℕ → List ℕ → Met → Type 0
-Answers s place (Read spot) starts parents met = WasRead s place spot starts parents met
-Answers s place (Refused k) starts parents met = (met_fault met ≡ k) × (1 ≤ k)
+-- for every number of turns that is above the text's bytes
+abbrev pub Answered : List ℕ → Result (Bor (List ℕ)) Refusal → List NamedJoint → (ℕ → Met) → Type 0
+Answered s r joints met = (f : ℕ) → length s < f → Answers s r joints (met f)
 
--- for every number of turns that is above the bytes left
-abbrev pub Answered : List ℕ → ℕ → Progress → List ℕ → List ℕ → (ℕ → Met) → Type 0
-Answered s place r starts parents met = (f : ℕ) → length s - place < f → Answers s place r starts parents (met f)
-
--- the number of a refusal, 0 for none
-abbrev pub progress_number : Progress → ℕ
-progress_number (Read spot) = 0
-progress_number (Refused k) = k
-
--- where it has come to lies behind where it began
-abbrev pub Past : ℕ → Progress → Type 0
-Past place (Read spot) = place < spot.at
-Past place (Refused k) = record {}
+-- what follows is shorter
+abbrev pub Shorter : List ℕ → Result (Bor (List ℕ)) Refusal → Type 0
+Shorter s (Ok rest) = length rest.now < length s
+Shorter s (Err refusal) = record {}

@@ -1,100 +1,65 @@
-// Blocks and their children. Joints are gathered as they are met: the place of each name, and each parent.
-ghost use Rattle.words.specs.Words.{words_at};
+// Blocks and their children. Joints are gathered as they are met.
+ghost use Rattle.std.specs.Prelude.{◌≡◌};
+ghost use Rattle.words.specs.Words.{words};
+ghost use Rattle.names.specs.Names.{names_fault};
+ghost use Rattle.names.specs.Kept.{kept_names};
 ghost use Rattle.hierarchy.specs.Hierarchy.{block, children};
-ghost use Rattle.hierarchy.specs.Gathered.{gathered, Ready, Answered};
+ghost use Rattle.hierarchy.specs.Gathered.{gathered, Answered};
 
-use crate::{Progress, Spot};
-use headings::{Child, child_of, heading_at, site_at};
-use names::name_fault;
-use words::{Reached, next_word};
+use headings::{Child, child_of, heading, site};
+use names::{NamedJoint, NamedJoints, add_joint};
+use refusals::Refusal;
+use words::next_word;
 
 // Reads a block behind its keyword, in the block `above`: its name, its heading, its children. Blocks may nest `deeper` levels in it.
-#[cycle(block_at_children_at)]
-pub fn block_at(
-    text: &[u8],
-    spot: Spot,
-    deeper: usize,
+#[cycle(block_children)]
+pub fn block<'a>(
+    text: &'a [u8],
     above: u8,
-    starts: &mut [usize; 128],
-    parents: &mut [u8; 128],
-) -> Progress
-    requires { Ready text.now spot.at spot.joints starts.old parents.old }
-    ensures { Answered text.now spot.at result starts.new parents.new
-        (λ f. block (children f deeper) above (words_at text.now spot.at)
-        (gathered text.now spot.joints starts.old parents.old)) }
+    deeper: usize,
+    joints: &mut NamedJoints<'a>,
+) -> Result<&'a [u8], Refusal>
+    requires { names_fault (kept_names joints.old.items) ≡ 0 }
+    ensures { Answered text.now result joints.new.items
+        (λ f. block (children f deeper) above (words text.now) (gathered joints.old.items)) }
 {
-    let joints = spot.joints;
-    let word = next_word(text, spot.at);
-    if word.start == word.end {
-        return Progress::Refused(19);
-    }
-    let fault = name_fault(text, starts, joints, word);
-    if fault != 0 {
-        return Progress::Refused(fault);
-    }
-    starts[joints] = word.start;
-    parents[joints] = above;
-    let heading = heading_at(text, word.end);
-    let Reached::At(at) = heading else {
-        return Progress::Refused(19);
+    let own = joints.len();
+    let word = next_word(text).ok_or(Refusal::BadHierarchy)?;
+    let joint = NamedJoint {
+        name: word.bytes,
+        parent: above,
     };
-    let next = joints + 1;
-    children_at(
-        text,
-        Spot { at, joints: next },
-        deeper,
-        joints as u8,
-        starts,
-        parents,
-    )
+    add_joint(joints, joint)?;
+    let inside = heading(word.rest).ok_or(Refusal::BadHierarchy)?;
+    children(inside, own as u8, deeper, joints)
 }
 
-// Reads the children of block `own` up to its closing brace: JOINT blocks and End Sites.
-#[cycle(block_at_children_at)]
-fn children_at(
-    text: &[u8],
-    spot: Spot,
-    deeper: usize,
+// Reads the children of block `own` up to its closing brace: JOINT blocks and End Sites. A loop with its end inside: what ends it is a word that is
+// read, and what it goes on from is what a child leaves.
+#[cycle(block_children)]
+fn children<'a>(
+    text: &'a [u8],
     own: u8,
-    starts: &mut [usize; 128],
-    parents: &mut [u8; 128],
-) -> Progress
-    requires { Ready text.now spot.at spot.joints starts.old parents.old }
-    ensures { Answered text.now spot.at result starts.new parents.new
-        (λ f. children f deeper own (words_at text.now spot.at)
-        (gathered text.now spot.joints starts.old parents.old)) }
+    deeper: usize,
+    joints: &mut NamedJoints<'a>,
+) -> Result<&'a [u8], Refusal>
+    requires { names_fault (kept_names joints.old.items) ≡ 0 }
+    ensures { Answered text.now result joints.new.items
+        (λ f. children f deeper own (words text.now) (gathered joints.old.items)) }
 {
-    let mut at = spot.at;
-    let mut joints = spot.joints;
+    let mut rest = text;
     loop {
-        let word = next_word(text, at);
-        let child = child_of(text, word);
-        at = word.end;
-        match child {
-            Child::Close => {
-                return Progress::Read(Spot { at, joints });
-            }
-            Child::End => {
-                let site = site_at(text, at);
-                let Reached::At(behind) = site else {
-                    return Progress::Refused(19);
-                };
-                at = behind;
-            }
+        let word = next_word(rest).ok_or(Refusal::BadHierarchy)?;
+        match child_of(word.bytes) {
+            Child::Close => return Ok(word.rest),
+            Child::End => rest = site(word.rest).ok_or(Refusal::BadHierarchy)?,
             Child::Joint => {
                 if deeper == 0 {
-                    return Progress::Refused(19);
+                    return Err(Refusal::BadHierarchy);
                 }
-                let step = block_at(text, Spot { at, joints }, deeper - 1, own, starts, parents);
-                let Progress::Read(behind) = step else {
-                    return step;
-                };
-                at = behind.at;
-                joints = behind.joints;
+                rest = block(word.rest, own, deeper - 1, joints)?;
             }
-            Child::Other => {
-                return Progress::Refused(19);
-            }
+            Child::Other => return Err(Refusal::BadHierarchy),
         }
     }
 }

@@ -3,102 +3,75 @@
 
 mod blocks;
 
-ghost use Rattle.std.specs.Prelude.{◌≡◌, ◌≤◌, length};
-ghost use Rattle.words.specs.Words.{words_at};
-ghost use Rattle.hierarchy.specs.Hierarchy.{ends, root_block, roots, hierarchy};
-ghost use Rattle.hierarchy.specs.Gathered.{gathered, Ready, Answers, Answered, Past, progress_number};
+ghost use Rattle.std.specs.Prelude.{◌≡◌, MatchResult};
+ghost use Rattle.refusals.specs.Numbers.{number_of};
+ghost use Rattle.words.specs.Words.{words};
+ghost use Rattle.names.specs.Names.{names_fault};
+ghost use Rattle.names.specs.Kept.{kept_names};
+ghost use Rattle.hierarchy.specs.Hierarchy.{ends, root_block, roots, hierarchy, met_fault};
+ghost use Rattle.hierarchy.specs.Gathered.{gathered, WasRead, Answered, Shorter};
 
-use blocks::block_at;
-use words::{Reached, is_word, keyword_at, next_word};
+use arrayvec::ArrayVec;
+use blocks::block;
+use names::NamedJoints;
+use refusals::Refusal;
+use words::{keyword, next_word};
 
 // The parent of a root, and how many levels may nest inside its block: JOINT nests to depth 32, and a root has depth 1.
 const ROOT: u8 = 255;
 
 const DEEPER: usize = 31;
 
-// Where reading is: a place of the text, and how many joints were met before it. Their names' places and their parents are kept beside it.
-#[derive(Clone, Copy)]
-pub struct Spot {
-    pub at: usize,
-    pub joints: usize,
+// The joints that a hierarchy names, and the text that follows it.
+#[derive(Drop)]
+pub struct Hierarchy<'a> {
+    pub joints: NamedJoints<'a>,
+    pub rest: &'a [u8],
 }
 
-// What a reader answers: where it has come to, or the number of the refusal.
-#[derive(Clone, Copy)]
-pub enum Progress {
-    Read(Spot),
-    Refused(u8),
-}
-
-// The number of a refusal, 0 for none.
-pub fn number(step: Progress) -> u8
-    ensures { result ≡ progress_number step }
+// Does the hierarchy end here? There MOTION stands, or the text ends.
+fn ends(text: &[u8]) -> bool
+    ensures { result ≡ ends (words text.now) }
 {
-    match step {
-        Progress::Read(_) => 0,
-        Progress::Refused(number) => number,
+    match next_word(text) {
+        Some(word) => word.bytes == b"MOTION".as_slice(),
+        None => true,
     }
-}
-
-// Does the hierarchy end at a place? There MOTION stands, or the text ends.
-fn ends_at(text: &[u8], at: usize) -> bool
-    requires { at ≤ length text.now }
-    ensures { result ≡ ends (words_at text.now at) }
-{
-    let word = next_word(text, at);
-    if word.start == word.end {
-        return true;
-    }
-    is_word(text, word, b"MOTION")
 }
 
 // Reads a ROOT block.
-fn root_at(text: &[u8], spot: Spot, starts: &mut [usize; 128], parents: &mut [u8; 128]) -> Progress
-    requires { Ready text.now spot.at spot.joints starts.old parents.old }
-    ensures answered { Answered text.now spot.at result starts.new parents.new
-        (λ f. root_block f (words_at text.now spot.at)
-        (gathered text.now spot.joints starts.old parents.old)) }
-    ensures past { Past spot.at result }
+fn root<'a>(text: &'a [u8], joints: &mut NamedJoints<'a>) -> Result<&'a [u8], Refusal>
+    requires { names_fault (kept_names joints.old.items) ≡ 0 }
+    ensures answered { Answered text.now result joints.new.items
+        (λ f. root_block f (words text.now) (gathered joints.old.items)) }
+    ensures shorter { Shorter text.now result }
 {
-    let root = keyword_at(text, spot.at, b"ROOT");
-    let Reached::At(at) = root else {
-        return Progress::Refused(19);
-    };
-    let joints = spot.joints;
-    block_at(text, Spot { at, joints }, DEEPER, ROOT, starts, parents)
+    let name = keyword(text, b"ROOT").ok_or(Refusal::BadHierarchy)?;
+    block(name, ROOT, DEEPER, joints)
 }
 
-// Reads ROOT blocks, one or more, up to MOTION or the end.
-fn roots_at(text: &[u8], spot: Spot, starts: &mut [usize; 128], parents: &mut [u8; 128]) -> Progress
-    requires { Ready text.now spot.at spot.joints starts.old parents.old }
-    ensures { Answered text.now spot.at result starts.new parents.new
-        (λ f. roots f (words_at text.now spot.at)
-        (gathered text.now spot.joints starts.old parents.old)) }
+// Reads ROOT blocks, one or more, up to MOTION or the end, which stands behind a block: so the loop has its end inside.
+fn roots<'a>(text: &'a [u8], joints: &mut NamedJoints<'a>) -> Result<&'a [u8], Refusal>
+    requires { names_fault (kept_names joints.old.items) ≡ 0 }
+    ensures { Answered text.now result joints.new.items
+        (λ f. roots f (words text.now) (gathered joints.old.items)) }
 {
-    let mut at = spot.at;
-    let mut joints = spot.joints;
+    let mut rest = text;
     loop {
-        let step = root_at(text, Spot { at, joints }, starts, parents);
-        let Progress::Read(behind) = step else {
-            return step;
-        };
-        at = behind.at;
-        joints = behind.joints;
-        let ended = ends_at(text, at);
-        if ended {
-            return step;
+        rest = root(rest, joints)?;
+        if ends(rest) {
+            return Ok(rest);
         }
     }
 }
 
-// Reads the hierarchy, and gathers its joints: the places of their names, and their parents.
-pub fn read(text: &[u8], starts: &mut [usize; 128], parents: &mut [u8; 128]) -> Progress
-    requires { (length starts.old ≡ 128) × (length parents.old ≡ 128) }
-    ensures { Answers text.now 0 result starts.new parents.new (hierarchy text.now) }
+// Reads the hierarchy, and gathers its joints.
+pub fn read(text: &[u8]) -> Result<Hierarchy<'_>, Refusal>
+    ensures { MatchResult result (λ h. WasRead text.now h.rest.now h.joints.items (hierarchy text.now))
+        (λ refusal. met_fault (hierarchy text.now) ≡ number_of refusal) }
 {
-    let word = keyword_at(text, 0, b"HIERARCHY");
-    let Reached::At(at) = word else {
-        return Progress::Refused(19);
-    };
-    roots_at(text, Spot { at, joints: 0 }, starts, parents)
+    let mut joints = ArrayVec::new();
+    let first = keyword(text, b"HIERARCHY").ok_or(Refusal::BadHierarchy)?;
+    let rest = roots(first, &mut joints)?;
+    Ok(Hierarchy { joints, rest })
 }

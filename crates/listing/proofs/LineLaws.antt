@@ -1,39 +1,50 @@
 -- A joint's lines: when there are any, and how long they get.
-use mathlib.Core.Path.{◌≡◌}
+use mathlib.Core.Path.{◌≡◌, refl}
 use mathlib.Core.Bool.{Bool, true, false, not, ◌&&◌, cond}
 use mathlib.Core.List.{List, []}
-use Prim.Native.Nat.{ℕ, ◌+◌, ◌*◌, ◌≤◌}
+use Prim.Native.Nat.{ℕ, ◌+◌, ◌*◌, ◌≤◌, ◌<◌}
 use native.Mathlib.Omega.{arith}
 use lib.Dec.{ltb}
 use lib.ListN.{length, drop, length-append, length-take}
-use borrow.Author.Tests.{not-true, ne_eqb, lt-ltb, le-ltb}
+use borrow.Author.Tests.{eq-eqb, ne_eqb, lt-ltb, le-ltb}
+use Rattle.std.specs.Prelude.{Some, None}
 use Rattle.base.specs.Below.{joined}
-use Rattle.base.proofs.Tests.{and_true}
 use Rattle.base.proofs.Joined.{joined_length}
 use Rattle.base.proofs.SumBelow.{sum_add, sum_bound}
 use Rattle.sections.specs.Labels.{label_at}
-use Rattle.matching.specs.Matchings.{partner, is_alone, pair_count, alone_count}
+use Rattle.matching.specs.Matchings.{partner, partner_of, is_alone, pair_count, alone_count}
+use Rattle.matching.proofs.MatchingTest.{partner_some, partner_none}
 use Rattle.writing.proofs.Decimals.{number_line_short}
 use Rattle.labels.specs.Lines.{label_line, pair_line}
 use Rattle.labels.proofs.Shown.{label_short, label_line_length, pair_line_length}
-use Rattle.listing.specs.Text.{pairs_word, alone_word, is_lower, pair_part, alone_part, pairing_text}
+use Rattle.listing.specs.Text.{pairs_word, alone_word, pair_part, alone_part, pairing_text}
 use Rattle.listing.specs.Claims.{PairListedOnce}
 
 pub pair_listed_once : PairListedOnce
 pair_listed_once m a b h few e f =
     (rw (e, ne_eqb b 255 (λ z. omega arith), lt-ltb a b h), rw (f, ne_eqb a 255 (λ z. omega arith), le-ltb b a (omega arith)))
 
--- joint i's parts where it adds a line
-pub lower_paired : (m : List ℕ) (i : ℕ) → is_lower m i ≡ true → is_alone m i ≡ false
-lower_paired m i h = not-true _ (and_true _ _ h).0
+-- joint i's parts, by its partner
+module _ (label : ℕ → List ℕ) (m : List ℕ) (i : ℕ) where
+  pub pair_listed : {p : ℕ} → Some p ≡ partner_of m i → i < p → pair_part label m i ≡ pair_line (label i) (label p)
+  unfolding pair_part
+  pair_listed e l = let (is, paired) = partner_some m i e in rw (is, ne_eqb _ _ paired, lt-ltb _ _ (rw is at l)) refl
 
-pub pair_part_lem : (label : ℕ → List ℕ) (m : List ℕ) (i : ℕ) → is_lower m i ≡ true → pair_part label m i ≡ pair_line (label i) (label (partner m i))
-unfolding pair_part
-pair_part_lem label m i h = rw h
+  pub pair_higher : {p : ℕ} → Some p ≡ partner_of m i → p ≤ i → pair_part label m i ≡ []
+  unfolding pair_part
+  pair_higher e l = let (is, paired) = partner_some m i e in rw (ne_eqb _ _ paired, le-ltb _ _ (rw is at l)) refl
 
-pub alone_part_lem : (label : ℕ → List ℕ) (m : List ℕ) (i : ℕ) → is_alone m i ≡ true → alone_part label m i ≡ label_line (label i)
-unfolding alone_part
-alone_part_lem label m i h = rw h
+  pub pair_none : None ≡ partner_of m i → pair_part label m i ≡ []
+  unfolding pair_part
+  pair_none e = rw (eq-eqb _ _ (partner_none m i e)) refl
+
+  pub alone_listed : None ≡ partner_of m i → alone_part label m i ≡ label_line (label i)
+  unfolding alone_part
+  alone_listed e = rw (eq-eqb _ _ (partner_none m i e)) refl
+
+  pub alone_paired : {p : ℕ} → Some p ≡ partner_of m i → alone_part label m i ≡ []
+  unfolding alone_part
+  alone_paired e = let (is, paired) = partner_some m i e in rw (ne_eqb _ _ paired) refl
 
 -- A label is at most 16 bytes, so a joint adds at most 34 bytes to the two lists of lines.
 abbrev pub Short : (ℕ → List ℕ) → Type 0

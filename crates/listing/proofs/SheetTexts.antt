@@ -1,7 +1,9 @@
 -- A sheet's text by the cases of its reading and of settle's answer.
-use mathlib.Core.Path.{◌≡◌, refl, ◌∙◌}
-use mathlib.Core.Bool.{false}
-use mathlib.Core.List.{List, [], ◌++◌}
+use mathlib.Core.Path.{◌≡◌, refl, sym, ◌∙◌}
+use mathlib.Core.Logic.{inl}
+use mathlib.Core.Bool.{true, false}
+use lib.Dec.{ltb}
+use mathlib.Core.List.{List, [], ◌∷◌, ◌++◌}
 use Prim.Native.Nat.{ℕ, zero, suc, ◌≤◌, ◌<◌}
 use native.Mathlib.Omega.{arith}
 use lib.ListN.{length, take, drop, length-append}
@@ -14,8 +16,10 @@ use Rattle.sheet.specs.Format.{joints, label_of}
 use Rattle.sections.specs.Labels.{label_at}
 use Rattle.sheet.specs.Refusals.{sheet_fault}
 use Rattle.sheet.specs.Square.{square_of}
-use Rattle.sheet.specs.declared.Parts.{Parts}
-use Rattle.sheet.proofs.ReadAs.{ListsAs}
+use Rattle.sheet.specs.declared.Sheet.{Sheet}
+use Rattle.sheet.specs.Readings.{reading_of, ReadsAs}
+use Rattle.sheet.proofs.Numbers.{sheet_is_fault}
+use Rattle.sheet.proofs.ReadAs.{reads, read_refused}
 use Rattle.sheet.proofs.Accepted.{accepted}
 use Rattle.roommates.specs.Lists.{Square, row, list_length}
 use Rattle.roommates.specs.Left.{partner_on, pairing_of}
@@ -23,11 +27,14 @@ use Rattle.records.specs.Records.{settles_by}
 use Rattle.roommates.proofs.PairsWritten.{partner_none, partner_some, pairing_length, pairing_at}
 use Rattle.matching.specs.Matchings.{partner, is_alone}
 use Rattle.calls.specs.declared.Phase.{Phase}
+use Rattle.calls.specs.declared.End.{End}
 use Rattle.calls.specs.declared.End.TheVariants as E
-use Rattle.calls.specs.declared.Settled.{Settled}
-use Rattle.calls.specs.declared.Settled.TheVariants as S
-use Rattle.calls.specs.Calls.{settle_says, left_by, partners_of, settle_answer}
-use Rattle.calls.proofs.Answers.{pairing_written}
+use Rattle.std.specs.Prelude.{Result, Ok, Err}
+use Rattle.refusals.specs.declared.Refusal.{Refusal}
+use Rattle.refusals.specs.Numbers.{number_of, answered}
+use Rattle.refusals.proofs.Numbers.{IsFault, number_some, answered_refused}
+use Rattle.calls.specs.Calls.{settle_says, settle_call, ended_as, left_by, partners_of, settle_answer}
+use Rattle.calls.proofs.Answers.{choice_is_fault, faults_are, pairing_written}
 use Rattle.writing.specs.Written.{Wrote, over}
 use Rattle.writing.proofs.Writings.{front_wrote}
 use Rattle.writing.proofs.Decimals.{number_line_short}
@@ -38,11 +45,11 @@ use Rattle.listing.proofs.LineLaws.{labels_short, pairing_short}
 
 -- LISTS
 module _ (label : ℕ → List ℕ) (n : ℕ) (t : Square) where
-  pub text_refused : {k : ℕ} → answer n t ≡ S.Refused k → lists_text label n t ≡ refused_text k
+  pub text_refused : {r : Refusal} → answer n t ≡ Err r → lists_text label n t ≡ refused_text (number_of r)
   unfolding lists_text
   text_refused e = rw e
 
-  pub text_none : {p : Phase} → answer n t ≡ S.Ended (E.None p) → lists_text label n t ≡ none_text (phase_number p)
+  pub text_none : {p : Phase} → answer n t ≡ Ok (E.None p) → lists_text label n t ≡ none_text (phase_number p)
   unfolding lists_text
   text_none e = rw e
 
@@ -61,14 +68,20 @@ pub record PairedLists (label : ℕ → List ℕ) (n : ℕ) (t : Square) (bytes 
   pub within : (i : ℕ) → i < n → is_alone (take n bytes) i ≡ false → partner (take n bytes) i < n
   pub text : lists_text label n t ≡ pairing_text label (take n bytes)
 
-pub paired_lists : (label : ℕ → List ℕ) (n : ℕ) (t : Square) {k : ℕ} {bytes : List ℕ} → answer n t ≡ S.Ended (E.Paired k)
+no_fault : (n : ℕ) (t : Square) → IsFault (first_fault (settle_says n t [] (length buffer)).faults)
+no_fault n t =
+    let says = settle_says n t [] (length buffer) in
+    let f : IsFault (first_fault (0 ∷ says.faults)) = faults_are 0 (ltb (length buffer) n) (settles_by n t []).refusal (inl refl) (choice_is_fault true n t []) in
+    rw (fault_passes 0 says.faults refl) at f
+
+pub paired_lists : (label : ℕ → List ℕ) (n : ℕ) (t : Square) {k : ℕ} {bytes : List ℕ} → answer n t ≡ Ok (E.Paired k)
     → bytes ≡ left_by (settle_says n t [] (length buffer)) buffer → PairedLists label n t bytes
 unfolding lists_text
 paired_lists label n t {k} {bytes} e b =
     let m = partners_of n t [] in
     let rest : List ℕ = drop (length m) buffer in
     let c = settle_says n t [] (length buffer) in
-    let is : bytes ≡ m ++ rest = b ∙ pairing_written (first_fault c.faults) c.verdict c.count m buffer e in
+    let is : bytes ≡ m ++ rest = b ∙ pairing_written (first_fault c.faults) c.verdict c.count m buffer (no_fault n t) e in
     let size : length m ≡ n = pairing_length n (settles_by n t []).work_is.lists in
     let front : take n (m ++ rest) ≡ m = take_at m rest n size in
     rw is record {
@@ -85,29 +98,40 @@ text_is_settles s = go (sheet_fault s) refl
   where
     go : (f : ℕ) → sheet_fault s ≡ f → text_or f s ≡ answer_text (label_of s) (partners_of (joints s) (square_of s) []) (settle_answer s [] buffer)
     go zero e = rw (fault_passes (sheet_fault s) _ e)
-    go (suc k) e = rw (fault_stops (sheet_fault s) _ (λ z. omega arith), e) refl
+    go (suc k) e = case (sheet_is_fault s)
+        (λ z. absurd (omega arith))
+        (λ r.
+        let c = settle_call s [] buffer in
+        let first : first_fault c.faults ≡ sheet_fault s = fault_stops (sheet_fault s) _ (λ z. omega arith) in
+        let is : answered (first_fault c.faults) (ended_as c.verdict c.count) ≡ Err r.0 =
+        sym (answered_refused (ended_as c.verdict c.count) (first_fault c.faults) r.0 (r.1 ∙ sym first)) in
+        rw (is, r.1, e) refl)
 
 pub text_accepted : (s : List ℕ) → sheet_fault s ≡ 0 → sheet_text s ≡ lists_text (label_of s) (joints s) (square_of s)
 unfolding sheet_text
 text_accepted s e = rw e
 
-pub text_fault : (s : List ℕ) (k : ℕ) → (sheet_fault s ≡ k) × (1 ≤ k) → sheet_text s ≡ refused_text k
+pub text_fault : (s : List ℕ) (r : Refusal) → reading_of s ≡ Err r → sheet_text s ≡ refused_text (number_of r)
 unfolding sheet_text
-text_fault s zero h = absurd (omega arith)
-text_fault s (suc k) h = rw h.0
+text_fault s r h = go (sheet_fault s) (read_refused s r h)
+  where
+    go : (f : ℕ) → number_of r ≡ f → text_or f s ≡ refused_text (number_of r)
+    go zero e = let some = number_some r in absurd (omega arith)
+    go (suc k) e = rw e refl
 
 -- what reading an accepted sheet tells: its labels lie before its rankings, and its text is that of its lists
 pub record ListedSheet (s : List ℕ) (n labels rankings : ℕ) (t : Square) : Type 0 where
   pub labelled : Labelled s labels rankings n
   pub text : sheet_text s ≡ lists_text (label_at s labels) n t
 
-pub listed_sheet : (s : List ℕ) (parts : Parts) (t : Square) → ListsAs s parts t → ListedSheet s parts.joints parts.labels parts.rankings t
-listed_sheet s parts t known =
-    let read = known.read in
-    let a = accepted s read.faultless in
-    rw (known.square, read.labels_start_lem, read.n_joints, read.entries_start) record {
+pub listed_sheet : (s : List ℕ) (read : Sheet) → ReadsAs s read
+    → ListedSheet s read.rankings.joints.count read.parts.labels read.parts.rankings read.rankings.bands
+listed_sheet s read known =
+    let parts = reads s read known in
+    let a = accepted s parts.faultless in
+    rw (known.square_is, parts.labels_start_lem, known.joints_are, parts.entries_start) record {
       labelled = record { few = a.few_joints; fit = omega arith; inside = omega (arith, a.reaches) };
-      text = text_accepted s read.faultless;
+      text = text_accepted s parts.faultless;
     }
 
 -- LENGTHS
@@ -115,13 +139,13 @@ lists_short : (s : List ℕ) (n : ℕ) (t : Square) → n ≤ 128 → length (li
 unfolding lists_text
 lists_short s n t few = go (answer n t)
   where
-    go : (a : Settled) → length (answer_text (label_of s) (partners_of n t []) a) ≤ 4400
-    go (S.Ended (E.Paired k)) =
+    go : (a : Result End Refusal) → length (answer_text (label_of s) (partners_of n t []) a) ≤ 4400
+    go (Ok (E.Paired k)) =
         let size : length (partners_of n t []) ≡ n = pairing_length n (settles_by n t []).work_is.lists in
         let h = pairing_short (label_of s) (labels_short s 1) (partners_of n t []) (omega arith) in
         omega arith
-    go (S.Ended (E.None p)) = let h = number_line_short none_word (phase_number p) in omega arith
-    go (S.Refused k) = let h = number_line_short refused_word k in omega arith
+    go (Ok (E.None p)) = let h = number_line_short none_word (phase_number p) in omega arith
+    go (Err r) = let h = number_line_short refused_word (number_of r) in omega arith
 
 pub text_short : TextShort
 unfolding sheet_text

@@ -1,14 +1,15 @@
 -- What `mirror` prints for a sheet: its refusal, or what settle answers with no choices.
-use Rattle.std.specs.Prelude.{List, [], ℕ, zero, suc, length, replicate}
+use Rattle.std.specs.Prelude.{List, [], ℕ, zero, suc, Result, Ok, Err, length, replicate}
+use Rattle.refusals.specs.declared.Refusal.{Refusal}
+use Rattle.refusals.specs.Numbers.{number_of}
 use Rattle.sheet.specs.Format.{joints, label_of}
 use Rattle.sheet.specs.Refusals.{sheet_fault}
 use Rattle.sheet.specs.Square.{square_of}
 use Rattle.roommates.specs.Lists.{Square}
 use Rattle.calls.specs.declared.Phase.{Phase}
 use Rattle.calls.specs.declared.Phase.TheVariants as P
+use Rattle.calls.specs.declared.End.{End}
 use Rattle.calls.specs.declared.End.TheVariants as E
-use Rattle.calls.specs.declared.Settled.{Settled}
-use Rattle.calls.specs.declared.Settled.TheVariants as S
 use Rattle.calls.specs.Calls.{settle_says, settled_by, partners_of}
 use Rattle.listing.specs.Text.{pairing_text, none_text, refused_text}
 
@@ -17,17 +18,17 @@ phase_number P.One = 1
 phase_number P.Two = 2
 
 -- settle's answer in words, with the pairing m if there is one
-abbrev pub answer_text : (ℕ → List ℕ) → List ℕ → Settled → List ℕ
-answer_text label m (S.Ended (E.Paired count)) = pairing_text label m
-answer_text label m (S.Ended (E.None phase)) = none_text (phase_number phase)
-answer_text label m (S.Refused number) = refused_text number
+abbrev pub answer_text : (ℕ → List ℕ) → List ℕ → Result End Refusal → List ℕ
+answer_text label m (Ok (E.Paired count)) = pairing_text label m
+answer_text label m (Ok (E.None phase)) = none_text (phase_number phase)
+answer_text label m (Err refusal) = refused_text (number_of refusal)
 
 -- n joints with the lists t: settle's answer with no choices. The buffer has room for 128 partners, so none is refused for it
 -- (number 9); what it holds plays no part.
 abbrev pub buffer : List ℕ
 buffer = replicate 128 0
 
-abbrev pub answer : ℕ → Square → Settled
+abbrev pub answer : ℕ → Square → Result End Refusal
 answer n t = settled_by (settle_says n t [] (length buffer))
 
 unfoldable pub lists_text : (ℕ → List ℕ) → ℕ → Square → List ℕ

@@ -4,55 +4,35 @@
 mod lines;
 
 ghost use Rattle.std.specs.Prelude.{◌≡◌, ◌≤◌, length};
-ghost use Rattle.sheet.specs.Square.{SquarePromise};
+ghost use Rattle.refusals.specs.Numbers.{number_of};
 ghost use Rattle.sections.specs.Labels.{label_at};
 ghost use Rattle.writing.specs.Written.{Wrote, over};
 ghost use Rattle.listing.specs.Text.{Labelled, Listable, pairing_text, none_text, refused_text};
 ghost use Rattle.listing.specs.Sheets.{phase_number, lists_text, sheet_text};
 
-use base::wide;
 use calls::settling::settle_lists;
-use calls::{End, Phase, Settled};
+use calls::{End, Phase};
+use labels::opened::Opened;
 use matching::count_paired;
-use sheet::Reading;
+use refusals::Refusal;
+use sheet::Rankings;
 use writing::write_number_line;
 
 // A pairing of the joints whose labels lie on the sheet.
-fn write_pairing(
-    sheet: &[u8],
-    labels: usize,
-    rankings: usize,
-    partners: &[u8],
-    out: &mut [u8],
-) -> usize
-    requires listable { Listable sheet.now labels rankings partners.now }
+fn write_pairing(opened: Opened, partners: &[u8], out: &mut [u8]) -> usize
+    requires listable { Listable opened.bytes.now opened.labels opened.rankings partners.now }
     requires in_bounds { 4400 ≤ length out.old }
-    ensures { Wrote out.old 0 (pairing_text (label_at sheet.now labels) partners.now) out.new result }
+    ensures { Wrote out.old 0 (pairing_text (label_at opened.entry.bytes.now opened.entry.labels) partners.now) out.new result }
 {
     let paired = count_paired(partners);
     let first = write_number_line(b"pairs ", paired / 2, 0, out);
-    let second = lines::write_pairs(sheet, labels, rankings, partners, first, out);
+    let second = lines::write_pairs(opened, partners, first, out);
     let third = write_number_line(b"alone ", partners.len() - paired, second, out);
-    lines::write_alone(sheet, labels, rankings, partners, third, out)
+    lines::write_alone(opened, partners, third, out)
 }
 
-// No pairing, with the phase.
-fn write_none(phase: u8, out: &mut [u8]) -> usize
-    requires { 4400 ≤ length out.old }
-    ensures { Wrote out.old 0 (none_text phase) out.new result }
-{
-    write_number_line(b"none phase ", wide(phase), 0, out)
-}
-
-// A refusal, with its number.
-fn write_refused(number: u8, out: &mut [u8]) -> usize
-    requires { 4400 ≤ length out.old }
-    ensures { Wrote out.old 0 (refused_text number) out.new result }
-{
-    write_number_line(b"refused ", wide(number), 0, out)
-}
-
-fn phase_number(phase: Phase) -> u8
+// Here, since only the text has the phases' numbers.
+fn phase_number(phase: Phase) -> usize
     ensures { result ≡ phase_number phase }
 {
     match phase {
@@ -61,28 +41,34 @@ fn phase_number(phase: Phase) -> u8
     }
 }
 
-// Settles n joints with their lists and no choices: the answer as text, by the labels on the sheet.
-fn list_lists(
-    sheet: &[u8],
-    labels: usize,
-    rankings: usize,
-    n: usize,
-    bands: [[u8; 128]; 128],
-    out: &mut [u8],
-) -> usize
-    requires labelled { Labelled sheet.now labels rankings n }
-    requires in_bounds { 4400 ≤ length out.old }
-    requires square_promise { SquarePromise n bands }
-    ensures { Wrote out.old 0 (lists_text (label_at sheet.now labels) n bands) out.new result }
+// No pairing, with the phase.
+fn write_none(phase: Phase, out: &mut [u8]) -> usize
+    requires { 4400 ≤ length out.old }
+    ensures { Wrote out.old 0 (none_text (phase_number phase)) out.new result }
 {
+    write_number_line(b"none phase ", phase_number(phase), 0, out)
+}
+
+// A refusal, with its number.
+fn write_refused(refusal: Refusal, out: &mut [u8]) -> usize
+    requires { 4400 ≤ length out.old }
+    ensures { Wrote out.old 0 (refused_text (number_of refusal)) out.new result }
+{
+    write_number_line(b"refused ", usize::from(u8::from(refusal)), 0, out)
+}
+
+// Settles the rankings with no choices: the answer as text, by the labels on the sheet.
+fn list_lists(opened: Opened, rankings: &Rankings, out: &mut [u8]) -> usize
+    requires labelled { Labelled opened.bytes.now opened.labels opened.rankings rankings.now.joints.count }
+    requires in_bounds { 4400 ≤ length out.old }
+    ensures { Wrote out.old 0 (lists_text (label_at opened.entry.bytes.now opened.entry.labels) rankings.now.joints.count rankings.now.bands) out.new result }
+{
+    let n = rankings.joints.count;
     let mut partners = [0u8; 128];
-    let settled = settle_lists(n, bands, b"", &mut partners);
-    match settled {
-        Settled::Refused(number) => write_refused(number, out),
-        Settled::Ended(end) => match end {
-            End::None(phase) => write_none(phase_number(phase), out),
-            End::Paired(_) => write_pairing(sheet, labels, rankings, &partners[..n], out),
-        },
+    match settle_lists(rankings, b"", &mut partners) {
+        Ok(End::Paired(_)) => write_pairing(opened, &partners[..n], out),
+        Ok(End::None(phase)) => write_none(phase, out),
+        Err(refused) => write_refused(refused, out),
     }
 }
 
@@ -91,17 +77,11 @@ pub fn list_sheet(sheet: &[u8], out: &mut [u8; 4400]) -> usize
     ensures value { result ≡ length (sheet_text sheet.now) }
     ensures out_after { out.new ≡ over (sheet_text sheet.now) out.old }
 {
-    let mut bands = [[0u8; 128]; 128];
-    let found = sheet::lists(sheet, &mut bands);
-    match found {
-        Reading::Refused(number) => write_refused(number, out),
-        Reading::Accepted(parts) => list_lists(
-            sheet,
-            parts.labels,
-            parts.rankings,
-            parts.joints,
-            bands,
-            out,
-        ),
+    match sheet::read(sheet) {
+        Ok(found) => {
+            let opened = Opened::new(sheet, found.parts.labels, found.parts.rankings);
+            list_lists(opened, &found.rankings, out)
+        }
+        Err(refusal) => write_refused(refusal, out),
     }
 }

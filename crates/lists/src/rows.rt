@@ -1,124 +1,74 @@
 // What one preference list says: a row of bands, 0 for a joint that is not on the list.
-ghost use Rattle.std.specs.Prelude.{◌≡◌, ◌≤◌, eqb, get_or};
-ghost use Rattle.roommates.specs.Lists.{list_length, better_band, best_band, worst_band, band_size, first_on};
-ghost use Rattle.base.specs.Below.{lowest};
+ghost use Rattle.std.specs.Prelude.{◌≡◌, ℕ, Bool, get_or};
+ghost use Rattle.base.specs.Below.{count_below};
+ghost use Rattle.roommates.specs.Lists.{list_length, best_band, worst_band, band_size, first_on};
 ghost use Rattle.roommates.specs.PhaseOne.{list_waits};
 
-pub fn list_length(n: usize, row: &[u8; 128]) -> u8
-    requires { n ≤ 128 }
-    ensures { result ≡ list_length n row.now }
+use sections::Joints;
+
+// How many bands of a list pass a test. A loop that counts in a byte, which the compiler makes steps of sixteen bands; it does not so with
+// `filter` and `count`, by which settle took a third longer.
+fn count<F: Fn(u8) -> bool>(n: Joints, row: &[u8; 128], test: F) -> usize
+    requires { F.IsAlwaysCallable test }
+    ensures { (p : ℕ → Bool) → ((b : ℕ) (r : Bool) → F.post test b r → r ≡ p b) → result ≡ count_below n.count (λ b. p (get_or row.now b 0)) }
 {
-    let mut size: u8 = 0;
-    let mut i = 0;
-    while i < n {
-        if row[i] != 0 {
-            size += 1;
+    let mut passed: u8 = 0;
+    for b in &row[..n.count] {
+        if test(*b) {
+            passed += 1;
         }
-        i += 1;
     }
-    size
+    usize::from(passed)
 }
 
-// the better of two bands, where 0 is no band
-fn better(k: u8, b: u8) -> u8
-    ensures { result ≡ better_band k b }
+pub fn list_length(n: Joints, row: &[u8; 128]) -> usize
+    ensures { result ≡ list_length n.count row.now }
 {
-    if b == 0 {
-        return k;
-    }
-    if k == 0 {
-        return b;
-    }
-    if b < k { b } else { k }
+    count(n, row, |b| 0 < b)
 }
 
-pub fn best_band(n: usize, row: &[u8; 128]) -> u8
-    requires { n ≤ 128 }
-    ensures { result ≡ best_band n row.now }
+// 0 for an empty list, as the square has no band
+pub fn best_band(n: Joints, row: &[u8; 128]) -> u8
+    ensures { result ≡ best_band n.count row.now }
 {
-    let mut best: u8 = 0;
-    let mut i = 0;
-    while i < n {
-        best = better(best, row[i]);
-        i += 1;
-    }
-    best
+    row[..n.count]
+        .iter()
+        .copied()
+        .filter(|b| 0 < *b)
+        .min()
+        .unwrap_or(0)
 }
 
-pub fn worst_band(n: usize, row: &[u8; 128]) -> u8
-    requires { n ≤ 128 }
-    ensures { result ≡ worst_band n row.now }
+pub fn worst_band(n: Joints, row: &[u8; 128]) -> u8
+    ensures { result ≡ worst_band n.count row.now }
 {
-    let mut worst: u8 = 0;
-    let mut i = 0;
-    while i < n {
-        if worst < row[i] {
-            worst = row[i];
-        }
-        i += 1;
-    }
-    worst
+    row[..n.count].iter().copied().max().unwrap_or(0)
 }
 
-pub fn band_size(n: usize, k: u8, row: &[u8; 128]) -> u8
-    requires { n ≤ 128 }
-    ensures { result ≡ band_size n k row.now }
+pub fn band_size(n: Joints, k: u8, row: &[u8; 128]) -> usize
+    ensures { result ≡ band_size n.count k row.now }
 {
-    let mut size: u8 = 0;
-    let mut i = 0;
-    while i < n {
-        if row[i] == k {
-            size += 1;
-        }
-        i += 1;
-    }
-    size
+    count(n, row, |b| b == k)
 }
 
-// the lowest joint in band k of a list
-fn first_in(n: usize, k: u8, row: &[u8; 128]) -> usize
-    requires { n ≤ 128 }
-    ensures { result ≡ lowest n (λ b. eqb (get_or row.now b 0) k) }
+// the lowest joint of a list's best band; n for an empty list, the number that `lowest` has for none
+pub fn first_on(n: Joints, row: &[u8; 128]) -> usize
+    ensures { result ≡ first_on n.count row.now }
 {
-    let mut i = 0;
-    while i < n {
-        if row[i] == k {
-            return i;
-        }
-        i += 1;
-    }
-    n
+    let best = best_band(n, row);
+    (0..n.count).find(|b| row[*b] == best).unwrap_or(n.count)
 }
 
-pub fn first_on(n: usize, row: &[u8; 128]) -> usize
-    requires { n ≤ 128 }
-    ensures { result ≡ first_on n row.now }
-{
-    first_in(n, best_band(n, row), row)
-}
-
-// Does a joint with this list, which last proposed to band k, wait? One walk, since this is the phases' busiest loop.
-pub fn list_waits(n: usize, k: u8, row: &[u8; 128]) -> bool
-    requires { n ≤ 128 }
-    ensures { result ≡ list_waits n k row.now }
+// Does a joint with this list, which last proposed to band k, wait? One walk and no early end, for speed: this is the phases' busiest
+// loop.
+pub fn list_waits(n: Joints, k: u8, row: &[u8; 128]) -> bool
+    ensures { result ≡ list_waits n.count k row.now }
 {
     let mut listed = false;
     let mut reached = false;
-    let mut i = 0;
-    while i < n {
-        if row[i] != 0 {
-            listed = true;
-        }
-        if row[i] == k {
-            reached = true;
-        }
-        i += 1;
+    for b in &row[..n.count] {
+        listed |= 0 < *b;
+        reached |= *b == k;
     }
-    if k == 0 {
-        return listed;
-    }
-    if reached {
-        return false;
-    }
-    listed
+    listed && (k == 0 || !reached)
 }

@@ -1,41 +1,29 @@
 // What joints do to the square of bands: proposals that stand, and strikes.
-ghost use Rattle.std.specs.Prelude.{◌≡◌, ◌≤◌, ◌<◌};
+ghost use Rattle.std.specs.Prelude.{◌≡◌, ℕ, Bool, ◌<◌};
 ghost use Rattle.roommates.specs.Lists.{struck, strike_if};
 ghost use Rattle.roommates.specs.PhaseOne.{stands, standing_at};
-ghost use Rattle.lists.specs.Hits.{hits};
+
+use sections::Joints;
 
 // does a proposal of a joint that last proposed to band k stand where it has band b?
 fn stands_in(k: u8, b: u8) -> bool
     ensures { result ≡ stands k b }
 {
-    if k == 0 {
-        return false;
-    }
-    b == k
+    1 <= k && b == k
 }
 
-pub fn standing_at(n: usize, bands: &[[u8; 128]; 128], reach: &[u8; 128], q: usize) -> u8
-    requires { (n ≤ 128) × (q < 128) }
-    ensures { result ≡ standing_at n bands.now reach.now q }
+// A loop, as in `rows::count`, for speed.
+pub fn standing_at(n: Joints, bands: &[[u8; 128]; 128], reach: &[u8; 128], q: usize) -> usize
+    requires { q < 128 }
+    ensures { result ≡ standing_at n.count bands.now reach.now q }
 {
     let mut count: u8 = 0;
-    let mut i = 0;
-    while i < n {
-        if stands_in(reach[i], bands[i][q]) {
+    for p in 0..n.count {
+        if stands_in(reach[p], bands[p][q]) {
             count += 1;
         }
-        i += 1;
     }
-    count
-}
-
-fn hit(whole: bool, k: u8, b: u8) -> bool
-    ensures { result ≡ hits whole k b }
-{
-    if whole {
-        return b == k;
-    }
-    k < b
+    usize::from(count)
 }
 
 fn strike_pair(bands: &mut [[u8; 128]; 128], q: usize, i: usize)
@@ -46,15 +34,15 @@ fn strike_pair(bands: &mut [[u8; 128]; 128], q: usize, i: usize)
     bands[i][q] = 0;
 }
 
-pub fn strike(n: usize, bands: &mut [[u8; 128]; 128], q: usize, k: u8, whole: bool)
-    requires { (n ≤ 128) × (q < 128) }
-    ensures { bands.new ≡ strike_if (λ b. hits whole k b) n bands.old q }
+// q strikes every pair whose band on its list is hit.
+pub fn strike<F: Fn(u8) -> bool>(n: Joints, bands: &mut [[u8; 128]; 128], q: usize, hit: F)
+    requires callable { F.IsAlwaysCallable hit }
+    requires in_bounds { q < 128 }
+    ensures { (test : ℕ → Bool) → ((b : ℕ) (r : Bool) → F.post hit b r → r ≡ test b) → bands.new ≡ strike_if test n.count bands.old q }
 {
-    let mut i = 0;
-    while i < n {
-        if hit(whole, k, bands[q][i]) {
+    for i in 0..n.count {
+        if hit(bands[q][i]) {
             strike_pair(bands, q, i);
         }
-        i += 1;
     }
 }

@@ -1,18 +1,20 @@
 -- The test for a matching means the plain statement.
 use mathlib.Core.Path.{◌≡◌}
 use mathlib.Core.Bool.{true}
-use mathlib.Core.Logic.{◌⊎◌, inl, inr}
+use mathlib.Core.Logic.{◌⊎◌, ◌≢◌, inl, inr}
 use mathlib.Core.List.{List}
 use Prim.Native.Nat.{ℕ, ◌<◌}
 use lib.Dec.{eqb, ltb}
 use lib.ListN.{length}
-use borrow.Author.Tests.{eqb-true, ltb-true, eq-eqb, lt-ltb}
+use borrow.Author.Tests.{eqb-true, eqb-false, ltb-true, eq-eqb, lt-ltb}
 use Rattle.sheet.specs.Square.{at}
-use Rattle.matching.specs.Matchings.{partner, is_paired, is_placed, is_matching}
+use Rattle.std.specs.Prelude.{Some, None}
+use native.Mathlib.Omega.{arith}
+use Rattle.matching.specs.Matchings.{partner, partner_of, is_alone, is_paired, is_placed, is_matching}
 use Rattle.matching.specs.Plain.{Paired}
 use Rattle.matching.specs.Claims.{IsMatchingMeans}
 use Rattle.base.specs.Below.{all_below}
-use Rattle.base.proofs.Cases.{case}
+use Rattle.base.proofs.Cases.{case, both_ways, unlike}
 use Rattle.base.proofs.AllBelow.{all_true, all_pass}
 use Rattle.base.proofs.Tests.{and_true, or_true, or_right}
 
@@ -45,6 +47,17 @@ is_matching_means n t m = (
   λ h. rw (eq-eqb _ _ h.0) (all_pass n _ (λ a l. placed_passes n t m a (h.1.placed a l))),
 )
 
+-- the partner of a paired joint
+pub partner_some : (m : List ℕ) (a : ℕ) {p : ℕ} → Some p ≡ partner_of m a → (p ≡ partner m a) × (partner m a ≢ 255)
+partner_some m a e = case (both_ways (is_alone m a))
+    (λ t. let no : _ = rw t at e in absurd (unlike cc))
+    (λ f. let same : _ = rw f at e in (cc, eqb-false _ _ f))
+
+pub partner_none : (m : List ℕ) (a : ℕ) → None ≡ partner_of m a → partner m a ≡ 255
+partner_none m a e = case (both_ways (is_alone m a))
+    (λ t. eqb-true _ _ t)
+    (λ f. let no : _ = rw f at e in absurd (unlike cc))
+
 -- what the functions that are handed a matching need of it
 module _ (n : ℕ) (t : List (List ℕ)) (m : List ℕ) (matching : is_matching n t m ≡ true) where
   pub as_many : length m ≡ n
@@ -54,3 +67,6 @@ module _ (n : ℕ) (t : List (List ℕ)) (m : List ℕ) (matching : is_matching 
   partner_joint a l paired = case (((is_matching_means n t m).0 matching).1.placed a l)
       (λ u. absurd (paired u))
       (λ p. p.with_joint)
+
+  pub joint_some : (a : ℕ) {p : ℕ} → a < n → Some p ≡ partner_of m a → p < n
+  joint_some a l e = let s = partner_some m a e in let low : partner m a < n = partner_joint a l s.1 in omega (arith, s.0)

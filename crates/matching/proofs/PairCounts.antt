@@ -5,27 +5,36 @@ use mathlib.Core.List.{List}
 use Prim.Native.Nat.{ℕ, ◌*◌, ◌≤◌, ◌<◌}
 use native.Mathlib.Omega.{arith}
 use lib.Dec.{eqb, ltb}
-use lib.ListN.{length}
+use lib.ListN.{length, get_or, take}
+use Rattle.std.specs.List.{count_by}
+use Rattle.std.proofs.Math.Seq.{take-length}
 use borrow.Author.Tests.{eqb-true, ltb-true, eq-eqb, ne_eqb, lt-ltb, le-ltb}
 use Rattle.sheet.specs.Square.{at, SquarePromise}
 use Rattle.base.specs.Below.{count_below, sum_below}
 use Rattle.base.proofs.Cases.{case, lt_ge}
 use Rattle.base.proofs.Tests.{and_true, never, not_so}
-use Rattle.base.proofs.CountBelow.{ones, count_sum, count_most, count_grows, count_rest, count_one, counted, two_counted, Two}
+use Rattle.base.proofs.Chains.{count_taken}
+use Rattle.base.proofs.Places.{get_d_inside}
+use Rattle.base.proofs.CountBelow.{count_same, ones, count_sum, count_most, count_grows, count_rest, count_one, counted, two_counted, Two}
 use Rattle.base.proofs.Faults.{when_most}
 use Rattle.base.proofs.SumBelow.{sum_same, sum_even, half_sum}
-use Rattle.matching.specs.Matchings.{partner, is_alone, paired_joints, alone_count}
+use Rattle.matching.specs.Matchings.{alone, partner, is_alone, paired_joints, alone_count}
 use Rattle.matching.specs.Plain.{Paired, Matching}
 use Rattle.matching.specs.Claims.{PairedOrAlone, TwoToAPair, OneHigher}
 use Rattle.matching.proofs.MatchingTest.{is_matching_means}
 
--- as the loop has it, joint by joint
-abbrev pub paired_below : ℕ → List ℕ → ℕ
+-- joint by joint
+abbrev paired_below : ℕ → List ℕ → ℕ
 paired_below i m = count_below i (λ a. not (is_alone m a))
 
-pub paired_all : (m : List ℕ) {s : ℕ} (i : ℕ) → s ≡ paired_below i m → i ≡ length m → s ≡ paired_joints m
+-- as a chain over the bytes counts
+pub paired_by : (m : List ℕ) → count_by (λ p. not (eqb p alone)) m ≡ paired_joints m
 unfolding paired_joints
-paired_all m i e h = rw (← h) e
+paired_by m =
+    let n = length m in
+    let all : count_by (λ p. not (eqb p alone)) (take n m) ≡ count_below n (λ a. not (eqb (get_or m a 0) alone)) = count_taken n _ m (omega arith) in
+    let there = λ (a : ℕ) (l : a < n). ap (λ p. not (eqb p alone)) (get_d_inside m a 0 alone l) in
+    rw take-length at all ∙ count_same n _ _ there
 
 pub paired_few : (m : List ℕ) → paired_joints m ≤ length m
 unfolding paired_joints

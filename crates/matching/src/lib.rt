@@ -1,77 +1,57 @@
 // Partner bytes over a sheet's joints and square: whether they are a matching, and what they count.
 #![tactic(auto)]
 
-ghost use Rattle.std.specs.Prelude.{◌≡◌, ◌≤◌, ◌<◌, length};
-ghost use Rattle.matching.specs.Matchings.{partner, paired_joints, pair_count, is_paired, is_placed, is_matching, pair_number};
+ghost use Rattle.std.specs.Prelude.{◌≡◌, ◌<◌, length};
+ghost use Rattle.matching.specs.Matchings.{partner_of, paired_joints, pair_count, is_paired, is_placed, is_matching, pair_number};
 
 use pair_rows::row_start;
+use sections::Joints;
 
 // The byte of an unpaired joint.
-pub const ALONE: usize = 255;
+const ALONE: u8 = 255;
 
-pub fn partner(pairing: &[u8], a: usize) -> usize
+// The partner of a, if a is paired.
+pub fn partner(pairing: &[u8], a: usize) -> Option<usize>
     requires { a < length pairing.now }
-    ensures { result ≡ partner pairing.now a }
+    ensures { result ≡ partner_of pairing.now a }
 {
-    base::wide(pairing[a])
+    let p = pairing[a];
+    if p == ALONE {
+        None
+    } else {
+        Some(usize::from(p))
+    }
 }
 
 // a has the partner p: a joint that a lists and whose partner is a.
-fn is_paired(joints: usize, bands: &[[u8; 128]; 128], pairing: &[u8], a: usize, p: usize) -> bool
-    requires { (joints ≤ 128) × (length pairing.now ≡ joints) × (a < joints) }
-    ensures { result ≡ is_paired joints bands.now pairing.now a p }
+#[tactic(auto, unfolding(crate::specs::Matchings::is_paired))]
+fn is_paired(n: Joints, bands: &[[u8; 128]; 128], pairing: &[u8], a: usize, p: usize) -> bool
+    requires { (length pairing.now ≡ n.count) × (a < n.count) }
+    ensures { result ≡ is_paired n.count bands.now pairing.now a p }
 {
-    if joints <= p {
-        return false;
-    }
-    if partner(pairing, p) != a {
-        return false;
-    }
-    0 < bands[a][p]
+    p < n.count && partner(pairing, p) == Some(a) && 0 < bands[a][p]
 }
 
-fn is_placed(joints: usize, bands: &[[u8; 128]; 128], pairing: &[u8], a: usize) -> bool
-    requires { (joints ≤ 128) × (length pairing.now ≡ joints) × (a < joints) }
-    ensures { result ≡ is_placed joints bands.now pairing.now a }
+#[tactic(auto, unfolding(crate::specs::Matchings::is_placed))]
+fn is_placed(n: Joints, bands: &[[u8; 128]; 128], pairing: &[u8], a: usize) -> bool
+    requires { (length pairing.now ≡ n.count) × (a < n.count) }
+    ensures { result ≡ is_placed n.count bands.now pairing.now a }
 {
-    let p = partner(pairing, a);
-    if p != ALONE {
-        return is_paired(joints, bands, pairing, a, p);
-    }
-    true
+    partner(pairing, a).is_none_or(|p| is_paired(n, bands, pairing, a, p))
 }
 
 // As many bytes as joints, each joint unpaired or paired with one that it lists and that has it as its partner.
-pub fn is_matching(joints: usize, bands: &[[u8; 128]; 128], pairing: &[u8]) -> bool
-    requires { joints ≤ 128 }
-    ensures { result ≡ is_matching joints bands.now pairing.now }
+pub fn is_matching(n: Joints, bands: &[[u8; 128]; 128], pairing: &[u8]) -> bool
+    ensures { result ≡ is_matching n.count bands.now pairing.now }
 {
-    if pairing.len() != joints {
-        return false;
-    }
-    let mut a = 0;
-    while a < joints {
-        if !is_placed(joints, bands, pairing, a) {
-            return false;
-        }
-        a += 1;
-    }
-    true
+    pairing.len() == n.count && (0..n.count).all(|a| is_placed(n, bands, pairing, a))
 }
 
 // How many joints the bytes pair.
 pub fn count_paired(pairing: &[u8]) -> usize
     ensures { result ≡ paired_joints pairing.now }
 {
-    let mut joints: usize = 0;
-    let mut a = 0;
-    while a < pairing.len() {
-        if partner(pairing, a) != ALONE {
-            joints += 1;
-        }
-        a += 1;
-    }
-    joints
+    pairing.iter().filter(|p| **p != ALONE).count()
 }
 
 pub fn count_pairs(pairing: &[u8]) -> usize
@@ -85,5 +65,5 @@ pub fn pair_number(a: usize, b: usize) -> usize
     requires { (a < b) × (b < 128) }
     ensures { result ≡ pair_number a b }
 {
-    row_start(b) as usize + a
+    usize::from(row_start(b)) + a
 }

@@ -1,3 +1,2 @@
 -- What the code's contracts cite beside the definitions of the crates below.
 pub mod Moved
-pub mod Lawful

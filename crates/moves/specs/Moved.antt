@@ -1,14 +1,16 @@
 -- One move as the code makes it.
-use Rattle.std.specs.Prelude.{◌≡◌, Bool, ℕ, ◌≤◌}
-use Rattle.roommates.specs.Lists.{Square}
-use Rattle.roommates.specs.Moves.{move}
-use Rattle.stages.specs.declared.Place.{Place}
-use Rattle.stages.specs.Places.{work_at, outcome_at, Ruled}
+use Rattle.std.specs.Prelude.{◌≡◌, ℕ, ◌≤◌, Result}
+use Rattle.refusals.specs.declared.Refusal.{Refusal}
+use Rattle.refusals.specs.Numbers.{fault_in}
+use Rattle.roommates.specs.Moves.{outcome, move}
+use Rattle.stages.specs.declared.Working.{Working}
+use Rattle.stages.specs.Workings.{work_of, Ruled}
 
--- the move of x takes the place g beside the lists t to r beside t', which knows the joint that the rule names if g did
-abbrev pub Moved : Bool → ℕ → ℕ → Square → Place → Square → Place → Type 0
-Moved whole n x t g t' r = (outcome_at t' r ≡ move whole n (work_at t g) x) × (Ruled n t g → Ruled n t' r)
+-- the move of x takes the working g to h, which knows the joint that the rule names if g did, and answers r
+abbrev pub Moved : ℕ → Working → Working → Result Unit Refusal → Type 0
+Moved x g h r = (h.task ≡ g.task)
+    × ((outcome (fault_in r) (work_of h) ≡ move g.task.whole g.task.joints.count (work_of g) x) × (Ruled g → Ruled h))
 
 -- one move more does not overflow the counts
-abbrev pub Roomy : Place → Type 0
-Roomy g = (g.proposals ≤ 65536) × (g.cuts ≤ 65536)
+abbrev pub Roomy : Working → Type 0
+Roomy g = (g.made.proposals ≤ 65536) × (g.cuts ≤ 65536)

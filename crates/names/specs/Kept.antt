@@ -1,13 +1,10 @@
--- Names as the code keeps them: by the places of a text at which they begin.
-use Rattle.std.specs.Prelude.{◌≡◌, List, map, ℕ, ◌≤◌, ◌<◌, length, get_or, take}
-use Rattle.words.specs.Words.{Words, word_at}
+-- Names and parents of joints as the code keeps them.
+use Rattle.std.specs.Prelude.{List, map, ℕ}
+use Rattle.words.specs.Words.{Words}
+use Rattle.names.specs.declared.joints.NamedJoint.{NamedJoint}
 
--- the names at the first k places
-abbrev pub names_at : List ℕ → ℕ → List ℕ → Words
-names_at s k starts = map (word_at s) (take k starts)
+abbrev pub kept_names : List NamedJoint → Words
+kept_names joints = map (λ j. j.name.now) joints
 
--- there is room for their places, and these lie in the text
-pub record Placed (s : List ℕ) (k : ℕ) (starts : List ℕ) : Type 0 where
-  pub few : k ≤ 128
-  pub room : length starts ≡ 128
-  pub within : (i : ℕ) → i < k → get_or starts i 0 ≤ length s
+abbrev pub kept_parents : List NamedJoint → List ℕ
+kept_parents joints = map (λ j. j.parent) joints

@@ -1,86 +1,44 @@
-// The names of a hierarchy, kept by the places of the text at which they begin. For the crates above, which prove what they require.
+// The names of a hierarchy, as the words of a text that they are. For the crates above, which prove what they require.
 #![tactic(auto)]
 
-ghost use Rattle.std.specs.Prelude.{◌≡◌, ◌≤◌, ◌<◌, length};
-ghost use Rattle.words.specs.Words.{word_at};
-ghost use Rattle.words.specs.Met.{IsWord};
-ghost use Rattle.sections.specs.Labels.{same_bytes};
+mod joints;
+
+ghost use Rattle.std.specs.Prelude.{◌≡◌, [], ◌∷◌, ◌++◌, MatchResult, OnOk, OnErr};
+ghost use Rattle.refusals.specs.Numbers.{number_of};
 ghost use Rattle.names.specs.Names.{is_name, is_known, is_unfit, name_fault};
-ghost use Rattle.names.specs.Kept.{names_at, Placed};
+ghost use Rattle.names.specs.Kept.{kept_names};
 
+pub use joints::{NamedJoint, NamedJoints};
+use refusals::Refusal;
 use sections::{LABEL_WIDTH, visible_run};
-use words::{Word, is_word, word_end};
-
-// As many joints as a sheet can have.
-const MOST: usize = 128;
 
 // Can a word be a label?
 fn is_name(word: &[u8]) -> bool
     ensures { result ≡ is_name word.now }
 {
-    if LABEL_WIDTH < word.len() {
-        return false;
-    }
-    visible_run(word) == word.len()
-}
-
-// Is the word that begins at a place this one?
-fn repeats(text: &[u8], start: usize, word: Word) -> bool
-    requires { (start ≤ length text.now) × IsWord text.now word.start word.end }
-    ensures { result ≡ same_bytes (word_at text.now start) (word_at text.now word.start) }
-{
-    let earlier = Word {
-        start: start,
-        end: word_end(text, start),
-    };
-    let from = word.start;
-    let to = word.end;
-    is_word(text, earlier, &text[from..to])
+    word.len() <= LABEL_WIDTH && visible_run(word) == word.len()
 }
 
 // Is a word one of the names?
-fn is_known(text: &[u8], starts: &[usize; 128], joints: usize, word: Word) -> bool
-    requires { Placed text.now joints starts.now × IsWord text.now word.start word.end }
-    ensures { result ≡ is_known (names_at text.now joints starts.now) (word_at text.now word.start) }
+fn is_known(joints: &[NamedJoint<'_>], word: &[u8]) -> bool
+    ensures { result ≡ is_known (kept_names joints.now) word.now }
 {
-    let mut i = 0;
-    while i < joints {
-        let known = repeats(text, starts[i], word);
-        if known {
-            return true;
-        }
-        i += 1;
-    }
-    false
+    joints.iter().any(|joint| joint.name == word)
 }
 
-// Is a word no name that may come after these: it cannot be a label, or it is one of them?
-fn is_unfit(text: &[u8], starts: &[usize; 128], joints: usize, word: Word) -> bool
-    requires { Placed text.now joints starts.now × IsWord text.now word.start word.end }
-    ensures { result ≡ is_unfit (names_at text.now joints starts.now) (word_at text.now word.start) }
+// Adds a joint, unless its name is refused: it is one too many, it cannot be a label, or it is one of those before.
+pub fn add_joint<'a>(joints: &mut NamedJoints<'a>, joint: NamedJoint<'a>) -> Result<(), Refusal>
+    ensures answer { MatchResult result (λ _. name_fault (kept_names joints.old.items) joint.entry.name.now ≡ 0)
+        (λ refusal. name_fault (kept_names joints.old.items) joint.entry.name.now ≡ number_of refusal) }
+    ensures ok { OnOk result (joints.new.items ≡ joints.old.items ++ (joint.entry ∷ [])) }
+    ensures err { OnErr result (joints.new.items ≡ joints.old.items) }
 {
-    let start = word.start;
-    let end = word.end;
-    let fits = is_name(&text[start..end]);
-    if fits {
-        is_known(text, starts, joints, word)
-    } else {
-        true
+    if joints.is_full() {
+        return Err(Refusal::TooManyJoints);
     }
-}
-
-// The number of the refusal that a word brings as the name after these, 0 for none.
-pub fn name_fault(text: &[u8], starts: &[usize; 128], joints: usize, word: Word) -> u8
-    requires { Placed text.now joints starts.now × IsWord text.now word.start word.end }
-    ensures { result ≡ name_fault (names_at text.now joints starts.now) (word_at text.now word.start) }
-{
-    let full = MOST <= joints;
-    let unfit = is_unfit(text, starts, joints, word);
-    if full {
-        return 2;
+    if !is_name(joint.name) || is_known(joints.as_slice(), joint.name) {
+        return Err(Refusal::BadName);
     }
-    if unfit {
-        return 20;
-    }
-    0
+    joints.push(joint);
+    Ok(())
 }

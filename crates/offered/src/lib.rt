@@ -4,17 +4,19 @@
 ghost use Rattle.std.specs.Prelude.{◌≡◌};
 ghost use Rattle.offered.specs.Checks.{check_of};
 
-use blocking::{Checked, offer};
-use sheet::Reading;
+use blocking::offer;
+use refusals::Refusal;
+use sections::Joints;
 
-// Checks an offered pairing against a sheet: a refusal of the sheet, then 10, then holds or the lowest blocking pair.
-pub fn check(sheet: &[u8], pairing: &[u8]) -> Checked
+// Checks an offered pairing against a sheet: a refusal of the sheet, then of what is no pairing, then the lowest blocking pair's number, or
+// none where the pairing holds.
+pub fn check(sheet: &[u8], pairing: &[u8]) -> Result<Option<u32>, Refusal>
     ensures { result ≡ check_of sheet.now pairing.now }
 {
     let mut bands = [[0u8; 128]; 128];
-    let found = sheet::lists(sheet, &mut bands);
-    match found {
-        Reading::Refused(number) => Checked::Refused(number),
-        Reading::Accepted(parts) => offer(parts.joints, &bands, pairing),
-    }
+    let parts = sheet::lists(sheet, &mut bands)?;
+    let joints = Joints {
+        count: parts.joints,
+    };
+    offer(joints, &bands, pairing)
 }

@@ -4,6 +4,7 @@
 
 ghost use Rattle.std.specs.Prelude.{◌≡◌, ◌-◌, ◌*◌, ◌/◌, ◌<◌};
 
+// A table, and no formula: what was asked for is that the rows start where a table says.
 // In 16 bits: a constant array is laid on the stack where it is read.
 const ROW_STARTS: [u16; 128] = [
     0, 0, 1, 3, 6, 10, 15, 21, 28, 36, 45, 55, 66, 78, 91, 105, 120, 136, 153, 171, 190, 210, 231,

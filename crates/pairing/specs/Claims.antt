@@ -1,11 +1,11 @@
 -- What C reads off an answer is what was answered: the macros of include/mirror.h take a number apart into the parts that made it.
-use Rattle.std.specs.Prelude.{◌≡◌, ℕ, ◌+◌, ◌*◌, ◌/◌, ◌%◌, ◌<◌}
+use Rattle.std.specs.Prelude.{◌≡◌, ℕ, ◌+◌, ◌*◌, ◌/◌, ◌%◌, ◌<◌, Ok, Err}
 use Rattle.calls.specs.declared.Counts.{Counts}
 use Rattle.calls.specs.declared.Phase.TheVariants as P
 use Rattle.quote.specs.declared.Quoted.TheVariants as Q
-use Rattle.skeleton.specs.declared.Followed.TheVariants as F
-use Rattle.skeleton.specs.Answers.{astray_by}
-use Rattle.bvh.specs.declared.Imported.TheVariants as I
+use Rattle.skeleton.specs.Answers.{answer_all, answer_astray}
+use Rattle.refusals.specs.declared.Refusal.{Refusal}
+use Rattle.refusals.specs.Numbers.{number_of, fault_of}
 use Rattle.pairing.specs.CCodes.{packed, counts_code, quoted_code, followed_code, imported_code}
 
 -- MIRROR_REFUSAL; MIRROR_VERDICT, MIRROR_HOLDS and MIRROR_ASTRAY; MIRROR_COUNT, MIRROR_PAIR and MIRROR_SUM
@@ -17,25 +17,25 @@ PartsReadBack = (number verdict count : ℕ) → number < 256 → verdict < 256
 
 -- mirror_quote's numbers: a refusal alone; none in phase one or two; a sum behind 3 in the verdict's place
 pub record QuoteNumbers : Type 0 where
-  pub refused : (k : ℕ) → quoted_code (Q.Refused k) ≡ k
-  pub none_one : quoted_code (Q.None P.One) ≡ 256
-  pub none_two : quoted_code (Q.None P.Two) ≡ 512
-  pub payable : (sum : ℕ) → quoted_code (Q.Payable sum) ≡ 768 + 65536 * sum
+  pub refused : (r : Refusal) → quoted_code (Err r) ≡ number_of r
+  pub none_one : quoted_code (Ok (Q.None P.One)) ≡ 256
+  pub none_two : quoted_code (Ok (Q.None P.Two)) ≡ 512
+  pub payable : (sum : ℕ) → quoted_code (Ok (Q.Payable sum)) ≡ 768 + 65536 * sum
 
 -- mirror_follow's numbers: a refusal alone; 0 where all pairs follow; else how many do not, and the lowest of their numbers
 pub record FollowNumbers : Type 0 where
-  pub refused : (k : ℕ) → followed_code (F.Refused k) ≡ k
-  pub all : followed_code F.All ≡ 0
-  pub astray : (pairs lowest : ℕ) → followed_code (astray_by pairs lowest) ≡ 256 * pairs + 65536 * lowest
+  pub refused : (r : Refusal) → followed_code (Err r) ≡ number_of r
+  pub all : followed_code answer_all ≡ 0
+  pub astray : (pairs lowest : ℕ) → followed_code (answer_astray pairs lowest) ≡ 256 * pairs + 65536 * lowest
 
 -- mirror_import's numbers: a refusal alone, or the sheet's length above its byte; and MIRROR_REFUSAL and MIRROR_LENGTH, which read them back
 pub record ImportNumbers : Type 0 where
-  pub refused : (k : ℕ) → imported_code (I.Refused k) ≡ k
-  pub sheet : (size : ℕ) → imported_code (I.Sheet size) ≡ 256 * size
-  pub read_refused : (k : ℕ) → k < 256 → (imported_code (I.Refused k) % 256 ≡ k) × (imported_code (I.Refused k) / 256 ≡ 0)
-  pub read_sheet : (size : ℕ) → (imported_code (I.Sheet size) % 256 ≡ 0) × (imported_code (I.Sheet size) / 256 ≡ size)
+  pub refused : (r : Refusal) → imported_code (Err r) ≡ number_of r
+  pub sheet : (size : ℕ) → imported_code (Ok size) ≡ 256 * size
+  pub read_refused : (r : Refusal) → (imported_code (Err r) % 256 ≡ number_of r) × (imported_code (Err r) / 256 ≡ 0)
+  pub read_sheet : (size : ℕ) → (imported_code (Ok size) % 256 ≡ 0) × (imported_code (Ok size) / 256 ≡ size)
 
 -- MIRROR_REFUSAL, MIRROR_PROPOSALS and MIRROR_CUTS
 abbrev pub CountsReadBack : Type 0
-CountsReadBack = (c : Counts) → c.number < 256 → c.proposals < 65536
-    → (counts_code c % 256 ≡ c.number) × (counts_code c / 65536 % 65536 ≡ c.proposals) × (counts_code c / 4294967296 ≡ c.cuts)
+CountsReadBack = (c : Counts) → c.proposals < 65536
+    → (counts_code c % 256 ≡ fault_of c.refusal) × (counts_code c / 65536 % 65536 ≡ c.proposals) × (counts_code c / 4294967296 ≡ c.cuts)

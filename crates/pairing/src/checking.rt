@@ -1,19 +1,19 @@
 // mirror_check.
-ghost use Rattle.std.specs.Prelude.{◌≡◌, ℕ, ◌<◌};
+ghost use Rattle.std.specs.Prelude.{◌≡◌, ℕ, ◌<◌, Some, Ok};
 ghost use Rattle.offered.specs.Checks.{check_of};
 ghost use Rattle.pairing.specs.CCodes.{checked_code};
 
-use crate::{COUNT, VERDICT};
-use blocking::Checked;
+use crate::{COUNT, VERDICT, number};
+use refusals::Refusal;
 
-fn checked_code(answer: Checked) -> u32
-    requires { (k : ℕ) → answer ≡ Checked.Blocked k → k < 65536 }
+fn checked_code(answer: Result<Option<u32>, Refusal>) -> u32
+    requires { (k : ℕ) → answer ≡ Ok (Some k) → k < 65536 }
     ensures { result ≡ checked_code answer }
 {
     match answer {
-        Checked::Refused(number) => number as u32,
-        Checked::Holds => VERDICT,
-        Checked::Blocked(pair) => COUNT * pair,
+        Err(refusal) => number(refusal),
+        Ok(None) => VERDICT,
+        Ok(Some(pair)) => COUNT * pair,
     }
 }
 

@@ -1,19 +1,20 @@
 // mirror_follow.
 ghost use Rattle.std.specs.Prelude.{◌≡◌, ℕ, ◌<◌};
-ghost use Rattle.skeleton.specs.Answers.{astray_by, follow_of};
+ghost use Rattle.skeleton.specs.Answers.{answer_astray, follow_of};
 ghost use Rattle.pairing.specs.CCodes.{followed_code};
 
-use crate::{COUNT, VERDICT};
-use skeleton::Followed;
+use crate::{COUNT, VERDICT, number};
+use refusals::Refusal;
+use skeleton::Strays;
 
-fn followed_code(answer: Followed) -> u32
-    requires { (k l : ℕ) → answer ≡ astray_by k l → (k < 256) × (l < 65536) }
+fn followed_code(answer: Result<Option<Strays>, Refusal>) -> u32
+    requires { (k l : ℕ) → answer ≡ answer_astray k l → (k < 256) × (l < 65536) }
     ensures { result ≡ followed_code answer }
 {
     match answer {
-        Followed::Refused(number) => number as u32,
-        Followed::All => 0,
-        Followed::Astray(strays) => VERDICT * strays.pairs + COUNT * strays.lowest,
+        Err(refusal) => number(refusal),
+        Ok(None) => 0,
+        Ok(Some(strays)) => VERDICT * strays.pairs + COUNT * strays.lowest,
     }
 }
 

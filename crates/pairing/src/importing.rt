@@ -1,21 +1,21 @@
 // mirror_import.
-ghost use Rattle.std.specs.Prelude.{◌≡◌, ℕ, ◌<◌, length};
-ghost use Rattle.bvh.specs.declared.Imported.TheVariants as I;
+ghost use Rattle.std.specs.Prelude.{◌≡◌, ℕ, ◌<◌, Ok, length};
 ghost use Rattle.bvh.specs.Answers.{import_of, import_into};
 ghost use Rattle.pairing.specs.CCodes.{imported_code};
 
-use bvh::Imported;
+use crate::number;
+use refusals::Refusal;
 
 // What a length weighs beside the refusal's byte.
 const LENGTH: u32 = 256;
 
-fn imported_code(answer: Imported) -> u32
-    requires { (size : ℕ) → answer ≡ I.Sheet size → size < 65536 }
+fn imported_code(answer: Result<usize, Refusal>) -> u32
+    requires { (size : ℕ) → answer ≡ Ok size → size < 65536 }
     ensures { result ≡ imported_code answer }
 {
     match answer {
-        Imported::Refused(number) => number as u32,
-        Imported::Sheet(size) => LENGTH * size as u32,
+        Ok(size) => LENGTH * size as u32,
+        Err(refusal) => number(refusal),
     }
 }
 

@@ -1,27 +1,27 @@
 // mirror_quote.
-ghost use Rattle.std.specs.Prelude.{◌≡◌, ℕ, ◌*◌, ◌≤◌};
+ghost use Rattle.std.specs.Prelude.{◌≡◌, ℕ, ◌*◌, ◌≤◌, Ok};
 ghost use Rattle.quote.specs.Quotes.{quote_answer};
 ghost use Rattle.pairing.specs.CCodes.{quoted_code};
 
+use crate::number;
 use calls::Phase;
 use quote::Quoted;
+use refusals::Refusal;
 
 // What a verdict and a sum weigh in a number of 64 bits, beside the refusal's.
 const VERDICT: u64 = 256;
 
 const SUM: u64 = 65536;
 
-fn quoted_code(answer: Quoted) -> u64
-    requires { (k : ℕ) → answer ≡ Quoted.Payable k → k ≤ 64 * 4294967295 }
+fn quoted_code(answer: Result<Quoted, Refusal>) -> u64
+    requires { (k : ℕ) → answer ≡ Ok (Quoted.Payable k) → k ≤ 64 * 4294967295 }
     ensures { result ≡ quoted_code answer }
 {
     match answer {
-        Quoted::Refused(number) => number as u64,
-        Quoted::None(phase) => match phase {
-            Phase::One => VERDICT,
-            Phase::Two => 2 * VERDICT,
-        },
-        Quoted::Payable(sum) => 3 * VERDICT + SUM * sum,
+        Err(refusal) => u64::from(number(refusal)),
+        Ok(Quoted::None(Phase::One)) => VERDICT,
+        Ok(Quoted::None(Phase::Two)) => 2 * VERDICT,
+        Ok(Quoted::Payable(sum)) => 3 * VERDICT + SUM * sum,
     }
 }
 

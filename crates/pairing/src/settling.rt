@@ -1,24 +1,21 @@
 // mirror_settle.
-ghost use Rattle.std.specs.Prelude.{◌≡◌, ℕ, ◌<◌};
+ghost use Rattle.std.specs.Prelude.{◌≡◌, ℕ, ◌<◌, Ok};
 ghost use Rattle.calls.specs.Calls.{settle_answer, settle_bytes};
 ghost use Rattle.pairing.specs.CCodes.{settled_code};
 
-use crate::{COUNT, VERDICT};
-use calls::{End, Phase, Settled};
+use crate::{COUNT, VERDICT, number};
+use calls::{End, Phase};
+use refusals::Refusal;
 
-fn settled_code(answer: Settled) -> u32
-    requires { (k : ℕ) → answer ≡ Settled.Ended (End.Paired k) → k < 65536 }
+fn settled_code(answer: Result<End, Refusal>) -> u32
+    requires { (k : ℕ) → answer ≡ Ok (End.Paired k) → k < 65536 }
     ensures { result ≡ settled_code answer }
 {
     match answer {
-        Settled::Refused(number) => number as u32,
-        Settled::Ended(end) => match end {
-            End::None(phase) => match phase {
-                Phase::One => VERDICT,
-                Phase::Two => 2 * VERDICT,
-            },
-            End::Paired(count) => 3 * VERDICT + COUNT * count,
-        },
+        Err(refusal) => number(refusal),
+        Ok(End::None(Phase::One)) => VERDICT,
+        Ok(End::None(Phase::Two)) => 2 * VERDICT,
+        Ok(End::Paired(count)) => 3 * VERDICT + COUNT * count,
     }
 }
 

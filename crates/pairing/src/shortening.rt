@@ -1,19 +1,19 @@
 // mirror_shorten.
-ghost use Rattle.std.specs.Prelude.{◌≡◌, ℕ, ◌<◌};
+ghost use Rattle.std.specs.Prelude.{◌≡◌, ℕ, ◌<◌, Some, Ok};
 ghost use Rattle.calls.specs.Calls.{shorten_answer, shorten_bytes};
 ghost use Rattle.pairing.specs.CCodes.{shortened_code};
 
-use crate::{COUNT, VERDICT};
-use calls::Shortened;
+use crate::{COUNT, VERDICT, number};
+use refusals::Refusal;
 
-fn shortened_code(answer: Shortened) -> u32
-    requires { (k : ℕ) → answer ≡ Shortened.Lists k → k < 65536 }
+fn shortened_code(answer: Result<Option<u32>, Refusal>) -> u32
+    requires { (k : ℕ) → answer ≡ Ok (Some k) → k < 65536 }
     ensures { result ≡ shortened_code answer }
 {
     match answer {
-        Shortened::Refused(number) => number as u32,
-        Shortened::None => VERDICT,
-        Shortened::Lists(count) => 3 * VERDICT + COUNT * count,
+        Err(refusal) => number(refusal),
+        Ok(None) => VERDICT,
+        Ok(Some(count)) => 3 * VERDICT + COUNT * count,
     }
 }
 

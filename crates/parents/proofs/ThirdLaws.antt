@@ -10,6 +10,7 @@ use borrow.Author.Tests.{lt-ltb, le-ltb, eq-eqb, ne_eqb, ltb-false}
 use Rattle.base.specs.Below.{any_below}
 use Rattle.base.specs.Faults.{when}
 use Rattle.base.proofs.Faults.{fault_stops, fault_passes, last_fault, first_none, first_holds, when_none, when_holds}
+use Rattle.refusals.proofs.Numbers.{IsFault, is_fault}
 use Rattle.parents.specs.Parents.{bad_parent, extent_fault, counted_fault, parents_fault, parents_in}
 
 -- ITS EXTENT, for a section that is left out, cut short, followed by bytes, and neither
@@ -84,3 +85,13 @@ pub parents_holds : (P : ℕ → Type 0) (n : ℕ) (third : List ℕ) → P 0 �
 unfolding parents_fault counted_fault
 parents_holds P n [] none h = none
 parents_holds P n (x ∷ l) none h = when_holds P (not (eqb x n) || any_below x (bad_parent l)) 18 none h
+
+-- each is a refusal's
+pub extent_is_fault : (third : List ℕ) → IsFault (extent_fault third)
+extent_is_fault third =
+    extent_holds IsFault third (is_fault 0 (omega arith) (λ e. omega arith)) (is_fault 1 (omega arith) (λ e. omega arith))
+    (is_fault 8 (omega arith) (λ e. omega arith))
+
+pub parents_is_fault : (n : ℕ) (third : List ℕ) → IsFault (parents_fault n third)
+parents_is_fault n third =
+    parents_holds IsFault n third (is_fault 0 (omega arith) (λ e. omega arith)) (is_fault 18 (omega arith) (λ e. omega arith))

@@ -3,8 +3,6 @@
 use Rattle.std.specs.Prelude.{Bool, not, ◌&&◌, ◌||◌, List, [], ◌∷◌, ℕ, eqb, ltb, leb, length, get_or, drop}
 use Rattle.base.specs.Below.{any_below}
 use Rattle.base.specs.Faults.{when, first_fault}
-use Rattle.sections.specs.declared.Section.{Section}
-use Rattle.sections.specs.Readings.{section_or}
 
 -- the byte of a root
 abbrev pub root : ℕ
@@ -41,13 +39,3 @@ is_there third = ltb 0 (length third)
 
 abbrev pub parents_in : List ℕ → List ℕ
 parents_in third = drop 1 third
-
--- what reading it answers: its length in bytes, or its refusal
-abbrev pub extent_reading : List ℕ → Section
-extent_reading third = section_or (length third) (extent_fault third)
-
-abbrev pub parents_reading : ℕ → ℕ → List ℕ → Section
-parents_reading n count part = section_or count (counted_fault n count part)
-
-abbrev pub third_reading : ℕ → List ℕ → Section
-third_reading n third = section_or (length (parents_in third)) (parents_fault n third)

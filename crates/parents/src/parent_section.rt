@@ -1,28 +1,27 @@
 // The parents' section: nothing, or a count and the parents of as many joints.
 ghost use Rattle.std.specs.Prelude.{◌≡◌, ◌≤◌, ◌<◌, length};
 ghost use Rattle.base.specs.Below.{any_below};
-ghost use Rattle.parents.specs.Parents.{bad_parent, extent_fault, extent_reading, parents_reading, third_reading};
+ghost use Rattle.refusals.specs.Numbers.{answered};
+ghost use Rattle.parents.specs.Parents.{bad_parent, extent_fault, counted_fault, parents_fault, parents_in};
 
 use crate::{ROOT, parent};
-use base::wide;
-use sections::Section;
+use refusals::Refusal;
 
 // How far the section goes, which may be left out: as far as the sheet, or it is cut short, or bytes follow it.
-pub fn parents_extent(third: &[u8]) -> Section
-    ensures { result ≡ extent_reading third.now }
+pub fn parents_extent(third: &[u8]) -> Result<usize, Refusal>
+    ensures { result ≡ answered (extent_fault third.now) (length third.now) }
 {
-    let size = third.len();
-    if size == 0 {
-        return Section::Read(0);
+    let Some((count, part)) = third.split_first() else {
+        return Ok(0);
+    };
+    let count = usize::from(*count);
+    if part.len() < count {
+        return Err(Refusal::SheetCutShort);
     }
-    let count = wide(third[0]);
-    if size - 1 < count {
-        return Section::Refused(1);
+    if count < part.len() {
+        return Err(Refusal::BytesAfterSheet);
     }
-    if count < size - 1 {
-        return Section::Refused(8);
-    }
-    Section::Read(size)
+    Ok(third.len())
 }
 
 // Is a parent neither 255 nor lower?
@@ -31,49 +30,34 @@ fn is_bad(part: &[u8], joint: usize) -> bool
     ensures { result ≡ bad_parent part.now joint }
 {
     let above = parent(part, joint);
-    if above == ROOT {
-        return false;
-    }
-    joint <= above
+    above != ROOT && joint <= above
 }
 
 fn some_bad(part: &[u8], count: usize) -> bool
     requires { count ≤ length part.now }
     ensures { result ≡ any_below count (bad_parent part.now) }
 {
-    let mut joint = 0;
-    while joint < count {
-        let found = is_bad(part, joint);
-        if found {
-            return true;
-        }
-        joint += 1;
-    }
-    false
+    (0..count).any(|joint| is_bad(part, joint))
 }
 
 // Reads the parents that the part begins with, as many as were counted: one for each of n joints.
-fn read_parents(part: &[u8], n: usize, count: usize) -> Section
+fn read_parents(part: &[u8], n: usize, count: usize) -> Result<usize, Refusal>
     requires { count ≤ length part.now }
-    ensures { result ≡ parents_reading n count part.now }
+    ensures { result ≡ answered (counted_fault n count part.now) count }
 {
-    if count != n {
-        return Section::Refused(18);
+    if count != n || some_bad(part, count) {
+        return Err(Refusal::BadParents);
     }
-    let bad = some_bad(part, count);
-    if bad {
-        return Section::Refused(18);
-    }
-    Section::Read(count)
+    Ok(count)
 }
 
 // Reads the section, if it is there: its parents are the part after its count.
-pub fn read_third(third: &[u8], n: usize) -> Section
+pub fn read_third(third: &[u8], n: usize) -> Result<usize, Refusal>
     requires { extent_fault third.now ≡ 0 }
-    ensures { result ≡ third_reading n third.now }
+    ensures { result ≡ answered (parents_fault n third.now) (length (parents_in third.now)) }
 {
-    if third.len() == 0 {
-        return Section::Read(0);
-    }
-    read_parents(&third[1..], n, wide(third[0]))
+    let Some((count, part)) = third.split_first() else {
+        return Ok(0);
+    };
+    read_parents(part, n, usize::from(*count))
 }

@@ -19,7 +19,8 @@ use Rattle.blocking.specs.Blocking.{blocking_pair}
 use Rattle.roommates.specs.Lists.{Square}
 use Rattle.records.specs.Records.{worked_by}
 use Rattle.relisting.proofs.OtherParents.{other_parents}
-use Rattle.offered.specs.Checks.{checked_as, check_of}
+use Rattle.refusals.specs.Numbers.{answered}
+use Rattle.offered.specs.Checks.{check_of}
 use Rattle.calls.specs.Calls.{Says, settled_by, shortened_by, left_by, settle_says, shorten_says, settle_answer, settle_bytes, shorten_answer, shorten_bytes, end_counts, counts_of}
 use Rattle.promises.specs.Claims.{SameAnswers, ShortenedAlike, SameRankings, ParentsChanged}
 
@@ -41,7 +42,7 @@ module _ (s : List ℕ) (n : ℕ) (t : Square) (f : sheet_fault s ≡ 0) (same :
   counts_on : (whole : Bool) (cs : List ℕ) → counts_of whole s cs ≡ end_counts (worked_by whole n t cs)
   counts_on whole cs = rw (last_fault (sheet_fault s), f, same, number)
 
-  check_on : (m : List ℕ) → check_of s m ≡ checked_as (when (not (is_matching n t m)) 10) (blocking_pair n t m)
+  check_on : (m : List ℕ) → check_of s m ≡ answered (when (not (is_matching n t m)) 10) (blocking_pair n t m)
   check_on m = rw (fault_passes (sheet_fault s) _ f, last_fault (when (not (is_matching (joints s) (square_of s) m)) 10), same, number)
 
   shorten_on : (m : ℕ) → rank_count s ≡ m → (cs out : List ℕ) → (shorten_answer s cs out ≡ shortened_by (shorten_says n m t cs (length out)))

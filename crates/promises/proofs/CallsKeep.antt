@@ -7,6 +7,7 @@ use Prim.Native.Nat.{ℕ, zero, suc, ◌*◌, ◌≤◌}
 use native.Mathlib.Omega.{arith}
 use Rattle.base.proofs.Faults.{fault_behind, fault_passes, last_fault}
 use Rattle.base.specs.Faults.{first_fault}
+use Rattle.refusals.specs.Numbers.{fault_of}
 use Rattle.sheet.proofs.Numbers.{sheet_not}
 use Rattle.square.specs.Mutual.{listed_pairs}
 use Rattle.sheet.specs.Format.{joints, entries_of}
@@ -25,7 +26,7 @@ use Rattle.calls.specs.declared.Counts.{Counts}
 use Rattle.calls.specs.Calls.{end_counts, counts_as, counts_of}
 use Rattle.promises.specs.Claims.{CountsAre, CallsKeep}
 use Rattle.calls.proofs.LawsCalls.{work_few}
-use Rattle.promises.proofs.SettleKeeps.{counts_number, settle_unwritten, settle_first, settle_refuses, settle_none, settle_paired, settle_same, settle_beginning}
+use Rattle.promises.proofs.SettleKeeps.{counts_first, settle_unwritten, settle_first, settle_refuses, settle_none, settle_paired, settle_same, settle_beginning}
 use Rattle.promises.proofs.ShortenKeeps.{shorten_unwritten, shorten_none, shorten_first, shorten_refuses, shorten_lists}
 use Rattle.promises.proofs.ShortenKeeps.{shorten_not_12, shorten_beginning, shorten_same, same_bytes, same_none}
 
@@ -78,11 +79,11 @@ module _ (s : List ℕ) where
       }
 
   choice_refused : (whole : Bool) (cs : List ℕ) (k : ℕ) → 11 ≤ k → k ≤ 15
-      → ((counts_of whole s cs).number ≡ k) ↔ ((sheet_fault s ≡ 0) × BytesRefused whole (joints s) (square_of s) cs k)
+      → (fault_of (counts_of whole s cs).refusal ≡ k) ↔ ((sheet_fault s ≡ 0) × BytesRefused whole (joints s) (square_of s) cs k)
   choice_refused whole cs k big low =
       let o = worked_by whole (joints s) (square_of s) cs in
       let by = (record_refusals whole (joints s) (square_of s) cs).refused_by k (λ z. omega arith) in
-      let number = counts_number (sheet_fault s) o in (
+      let number = counts_first whole s cs in (
         λ h.
             let e : first_fault (sheet_fault s ∷ (o.refusal ∷ [])) ≡ k = sym number ∙ h in
             let r = own (sheet_fault s) o.refusal k (sheet_not s k (omega arith) (omega arith)) e in
@@ -120,6 +121,6 @@ module _ (s : List ℕ) where
     no_cuts = no_cuts;
     counts_small = λ whole cs. rw (last_fault (sheet_fault s)) (small_or (sheet_fault s) _ (λ f. work_few whole (joints s) (square_of s) (accepted_square s f) cs));
     no_choices = λ whole f.
-        rw (counts_number (sheet_fault s) (worked_by whole (joints s) (square_of s) []))
+        rw (counts_first whole s [])
         (fault_passes (sheet_fault s) _ f ∙ last_fault _ ∙ work_no_choices whole f);
   }

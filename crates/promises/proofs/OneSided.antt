@@ -12,7 +12,8 @@ use Rattle.sheet.specs.Refusals.{sheet_fault}
 use Rattle.sheet.specs.Square.{at, square_of}
 use Rattle.sheet.proofs.PromiseKept.{square_is_mutual}
 use Rattle.matching.specs.Matchings.{partner, pair_number}
-use Rattle.blocking.specs.declared.Checked.TheVariants as C
+use Rattle.refusals.specs.Numbers.{RefusedAs}
+use Rattle.std.proofs.Common.{Some, Ok}
 use Rattle.roommates.specs.Lists.{Square}
 use Rattle.roommates.proofs.EntriesListed.{all_listed, pairs_half}
 use Rattle.relisting.specs.Written.{without}
@@ -45,7 +46,7 @@ module _ (s : List ℕ) (f : sheet_fault s ≡ 0) where
       (omega (arith, own.0), own.1)
 
   offered_ten : (m : List ℕ) (a : ℕ) → a < n → partner m a ≢ 255
-      → (band_in (entries_of s) a (partner m a) ≡ 0) ⊎ (band_in (entries_of s) (partner m a) a ≡ 0) → check_of s m ≡ C.Refused 10
+      → (band_in (entries_of s) a (partner m a) ≡ 0) ⊎ (band_in (entries_of s) (partner m a) a ≡ 0) → RefusedAs (check_of s m) 10
   offered_ten m a l paired missing =
       (check_keeps s m).check_ten.1 (
         f,
@@ -54,7 +55,7 @@ module _ (s : List ℕ) (f : sheet_fault s ≡ 0) where
             (λ p. let both = each_lists a (partner m a) p.listed in case missing (λ z. omega arith) (λ z. omega arith)),
       )
 
-  blocked_both : (m : List ℕ) (k : ℕ) → check_of s m ≡ C.Blocked k
+  blocked_both : (m : List ℕ) (k : ℕ) → check_of s m ≡ Ok (Some k)
       → (a : ℕ) × (b : ℕ) × (k ≡ pair_number a b) × (0 < band_in (entries_of s) a b) × (0 < band_in (entries_of s) b a)
   blocked_both m k h =
       let low = (((check_keeps s m).check_blocked k).0 h).2 in

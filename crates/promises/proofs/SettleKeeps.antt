@@ -1,6 +1,7 @@
 -- What settle's answers promise.
 use mathlib.Core.Path.{◌≡◌, refl, sym, ap, ◌∙◌}
-use mathlib.Core.Bool.{true, false, not}
+use mathlib.Core.Bool.{Bool, true, false, not}
+use lib.Dec.{ltb}
 use mathlib.Core.List.{List, [], ◌∷◌, ◌++◌}
 use mathlib.Core.Logic.{◌≢◌, ◌↔◌}
 use Prim.Native.Nat.{ℕ, zero, suc, ◌/◌, ◌≤◌, ◌<◌}
@@ -17,7 +18,9 @@ use Rattle.sheet.specs.Format.{joints}
 use Rattle.sheet.specs.Refusals.{sheet_fault}
 use Rattle.sheet.specs.Square.{square_of}
 use Rattle.sheet.proofs.PromiseKept.{accepted_square}
-use Rattle.blocking.specs.declared.Checked.TheVariants as C
+use Rattle.refusals.specs.Numbers.{fault_of, fault_in, RefusedAs}
+use Rattle.refusals.proofs.Numbers.{IsFault, answered_none, value_answered, refused_as, fault_answered, fault_back}
+use Rattle.std.proofs.Common.{None, Ok}
 use Rattle.blocking.specs.Blocking.{is_super_stable}
 use Rattle.matching.specs.Matchings.{is_alone, paired_joints, pair_count}
 use Rattle.blocking.proofs.SuperStableTest.{is_super_stable_means}
@@ -27,29 +30,28 @@ use Rattle.roommates.specs.declared.Stage.TheVariants.{Proposing, Cutting, NoneO
 use Rattle.roommates.specs.Moves.{Outcome}
 use Rattle.roommates.specs.Claims.{Answer, count_for, answer_of}
 use Rattle.roommates.proofs.PairsWritten.{pairing_length}
-use Rattle.records.specs.Records.{is_odd, settles_by}
+use Rattle.records.specs.Records.{is_odd, worked_by, settles_by}
 use Rattle.records.proofs.RecordDemands.{record_demands}
 use Rattle.records.proofs.RecordRefusals.{refusal_number, record_refusals}
 use Rattle.calls.specs.declared.Phase.{Phase}
 use Rattle.calls.specs.declared.End.{End}
 use Rattle.calls.specs.declared.End.TheVariants as E
-use Rattle.calls.specs.declared.Settled.TheVariants as S
 use Rattle.offered.specs.Checks.{check_of}
-use Rattle.calls.specs.Calls.{settled_number, partners_of, settle_call, ended_as, settle_answer, settle_bytes, counts_as, counts_of}
+use Rattle.calls.specs.Calls.{partners_of, settle_call, ended_as, settle_answer, settle_bytes, counts_as, counts_of}
 use Rattle.promises.specs.Claims.{Super, PairingIs, Refuses}
-use Rattle.calls.proofs.Answers.{Fair, settled_number_lem, settled_says, settled_paired, settled_none, unwritten, unpaired_unwritten}
+use Rattle.calls.proofs.Answers.{choice_is_fault, faults_are, settled_paired, settled_none, unwritten, unpaired_unwritten}
 use Rattle.promises.proofs.CheckKeeps.{check_keeps}
 use Rattle.calls.proofs.LawsCalls.{pairs_few}
 use Rattle.promises.proofs.Refusals.{no_fault, all_pass, refuses}
-use Rattle.sheet.proofs.Numbers.{sheet_numbers}
+use Rattle.sheet.proofs.Numbers.{sheet_numbers, sheet_is_fault}
 
 -- super-stable matchings are those that check holds good
-check_super : (s m : List ℕ) → sheet_fault s ≡ 0 → Super s m → check_of s m ≡ C.Holds
+check_super : (s m : List ℕ) → sheet_fault s ≡ 0 → Super s m → check_of s m ≡ Ok None
 check_super s m f h =
     let w = (is_super_stable_means (joints s) (square_of s) m (accepted_square s f)).0 h in
     (check_keeps s m).check_holds.1 (f, w.0, w.1)
 
-check_blocked : (s m : List ℕ) → is_super_stable (joints s) (square_of s) m ≡ false → check_of s m ≢ C.Holds
+check_blocked : (s m : List ℕ) → is_super_stable (joints s) (square_of s) m ≡ false → check_of s m ≢ Ok None
 check_blocked s m e h =
     let w = (check_keeps s m).check_holds.0 h in
     never _ ((is_super_stable_means (joints s) (square_of s) m (accepted_square s w.0)).1 (w.1, w.2)) e
@@ -68,12 +70,18 @@ over_is k bytes before after e l h = record {
 }
 
 -- the counts' number is the first of the sheet's refusal and that of the choices
-pub counts_number : (f : ℕ) (e : Outcome) → (counts_as (first_fault (f ∷ [])) e).number ≡ first_fault (f ∷ (e.refusal ∷ []))
-counts_number f e = rw (last_fault f) (go f)
+pub counts_number : (f : ℕ) (e : Outcome) → IsFault f → IsFault e.refusal → fault_of (counts_as (first_fault (f ∷ [])) e).refusal ≡ first_fault (f ∷ (e.refusal ∷ []))
+counts_number f e own choice = rw (last_fault f) (go f own)
   where
-    go : (f : ℕ) → (counts_as f e).number ≡ first_fault (f ∷ (e.refusal ∷ []))
-    go zero = sym (fault_passes 0 _ refl ∙ last_fault e.refusal)
-    go (suc k) = sym (fault_stops (suc k) _ (λ z. omega arith))
+    go : (f : ℕ) → IsFault f → fault_of (counts_as f e).refusal ≡ first_fault (f ∷ (e.refusal ∷ []))
+    go zero h = fault_back choice ∙ sym (fault_passes 0 _ refl ∙ last_fault e.refusal)
+    go (suc k) h = fault_back h ∙ sym (fault_stops (suc k) _ (λ z. omega arith))
+
+-- .. of a working over a sheet
+pub counts_first : (whole : Bool) (s cs : List ℕ) → let e = worked_by whole (joints s) (square_of s) cs in
+    fault_of (counts_of whole s cs).refusal ≡ first_fault (sheet_fault s ∷ (e.refusal ∷ []))
+counts_first whole s cs =
+    counts_number (sheet_fault s) (worked_by whole (joints s) (square_of s) cs) (sheet_is_fault s) (choice_is_fault whole (joints s) (square_of s) cs)
 
 -- an answer by the theory's: a count matters beside a pairing only
 settled_for : (v : Stage) (c : ℕ) → ended_as v c ≡ ended_as v (count_for v c)
@@ -98,51 +106,51 @@ module _ (s cs out : List ℕ) where
   pub settle_ran : fault ≡ 0 → (sheet_fault s ≡ 0) × (joints s ≤ length out) × ((settles_by (joints s) (square_of s) cs).refusal ≡ 0)
   settle_ran = no_fault (sheet_fault s) (length out) (joints s) _
 
-  pub settle_unrefused : settled_number (settle_answer s cs out) ≡ 0 → fault ≡ 0
-  settle_unrefused h = sym (settled_number_lem fault (verdict_on s cs) (pairs_on s cs)) ∙ h
+  pub settle_is_fault : IsFault fault
+  settle_is_fault = faults_are (sheet_fault s) (ltb (length out) (joints s)) _ (sheet_is_fault s) (choice_is_fault true (joints s) (square_of s) cs)
 
-  pub settle_ends : fault ≡ 0 → settle_answer s cs out ≡ ended_as (verdict_on s cs) (pairs_on s cs)
-  settle_ends h = rw h
+  pub settle_unrefused : fault_in (settle_answer s cs out) ≡ 0 → fault ≡ 0
+  settle_unrefused h = sym (fault_answered (ended_as (verdict_on s cs) (pairs_on s cs)) fault settle_is_fault) ∙ h
 
-  fair : Fair fault (verdict_on s cs)
-  fair z = let r = settle_ran z in (record_demands s r.0).says_one cs r.2
+  pub settle_ends : fault ≡ 0 → settle_answer s cs out ≡ Ok (ended_as (verdict_on s cs) (pairs_on s cs))
+  settle_ends h = sym (answered_none _ fault h)
 
-  says : (k : ℕ) → settle_answer s cs out ≡ S.Refused k ↔ ((fault ≡ k) × (1 ≤ k))
-  says k = settled_says fault (verdict_on s cs) (pairs_on s cs) k fair
+  says : (k : ℕ) → RefusedAs (settle_answer s cs out) k ↔ ((fault ≡ k) × (1 ≤ k))
+  says = refused_as (ended_as (verdict_on s cs) (pairs_on s cs)) fault settle_is_fault
 
-  pub settle_first : (k : ℕ) → settle_answer s cs out ≡ S.Refused k ↔ First k (settle_call s cs out).faults
+  pub settle_first : (k : ℕ) → RefusedAs (settle_answer s cs out) k ↔ First k (settle_call s cs out).faults
   settle_first k =
       let b = first_answered (settle_call s cs out).faults k in
       (λ h. b.0 ((says k).0 h), λ h. (says k).1 (b.1 h))
 
-  pub settle_refuses : Refuses (sheet_fault s) (counts_of true s cs).number (joints s) (length out) (λ k. settle_answer s cs out ≡ S.Refused k)
+  pub settle_refuses : Refuses (sheet_fault s) (fault_of (counts_of true s cs).refusal) (joints s) (length out) (λ k. RefusedAs (settle_answer s cs out) k)
   settle_refuses =
-      rw (counts_number (sheet_fault s) (settles_by (joints s) (square_of s) cs))
+      rw (counts_first true s cs)
       (refuses (sheet_fault s) (length out) (joints s) (settles_by (joints s) (square_of s) cs).refusal (sheet_numbers s)
       (refusal_number true (joints s) (square_of s) cs)
-      (λ k. settle_answer s cs out ≡ S.Refused k)
+      (RefusedAs (settle_answer s cs out))
       says)
 
-  pub settle_unwritten : (k : ℕ) → settle_answer s cs out ≡ S.Refused k → settle_bytes s cs out ≡ out
+  pub settle_unwritten : (k : ℕ) → RefusedAs (settle_answer s cs out) k → settle_bytes s cs out ≡ out
   settle_unwritten k h = let r = (says k).0 h in unwritten fault (verdict_on s cs) _ out (omega (arith, r.0, r.1))
 
   -- a call that ends with x
-  module _ (x : End) (h : settle_answer s cs out ≡ S.Ended x) where
+  module _ (x : End) (h : settle_answer s cs out ≡ Ok x) where
     none_refused : fault ≡ 0
-    none_refused = settle_unrefused (ap settled_number h)
+    none_refused = settle_unrefused (ap fault_in h)
 
-    ended : ended_as (verdict_on s cs) (pairs_on s cs) ≡ S.Ended x
-    ended = sym (settle_ends none_refused) ∙ h
+    ended : ended_as (verdict_on s cs) (pairs_on s cs) ≡ x
+    ended = (value_answered _ fault x settle_is_fault h).1
 
-  pub settle_none : (p : Phase) → settle_answer s cs out ≡ S.Ended (E.None p)
-      → (settle_bytes s cs out ≡ out) × ((m : List ℕ) → (is_super_stable (joints s) (square_of s) m ≡ false) × (check_of s m ≢ C.Holds))
+  pub settle_none : (p : Phase) → settle_answer s cs out ≡ Ok (E.None p)
+      → (settle_bytes s cs out ≡ out) × ((m : List ℕ) → (is_super_stable (joints s) (square_of s) m ≡ false) × (check_of s m ≢ Ok None))
   settle_none p h =
       let r = settle_ran (none_refused (E.None p) h) in
       let other : verdict_on s cs ≢ Paired = settled_none (verdict_on s cs) (pairs_on s cs) p (ended (E.None p) h) in
       let blocked : (m : List ℕ) → is_super_stable (joints s) (square_of s) m ≡ false = λ m. (record_demands s r.0).none_is cs m r.2 other in
       (unpaired_unwritten fault (verdict_on s cs) _ out other, λ m. (blocked m, check_blocked s m (blocked m)))
 
-  pub settle_paired : (k : ℕ) → settle_answer s cs out ≡ S.Ended (E.Paired k) → PairingIs s out (settle_bytes s cs out) k
+  pub settle_paired : (k : ℕ) → settle_answer s cs out ≡ Ok (E.Paired k) → PairingIs s out (settle_bytes s cs out) k
   settle_paired k h =
       let z = none_refused (E.Paired k) h in
       let r = settle_ran z in
@@ -164,14 +172,14 @@ module _ (s cs out : List ℕ) where
       }
 
 -- records left off earlier
-pub settle_beginning : (s cs ds out : List ℕ) → is_odd (length cs) ≡ false → settled_number (settle_answer s (cs ++ ds) out) ≡ 0 → settled_number (settle_answer s cs out) ≡ 0
+pub settle_beginning : (s cs ds out : List ℕ) → is_odd (length cs) ≡ false → fault_in (settle_answer s (cs ++ ds) out) ≡ 0 → fault_in (settle_answer s cs out) ≡ 0
 settle_beginning s cs ds out even h =
     let r = settle_ran s (cs ++ ds) out (settle_unrefused s (cs ++ ds) out h) in
     let z = (record_refusals true (joints s) (square_of s) cs).beginning ds even r.2 in
-    settled_number_lem _ (verdict_on s cs) (pairs_on s cs) ∙ all_pass (sheet_fault s) (length out) (joints s) _ r.0 r.1 z
+    fault_answered (ended_as (verdict_on s cs) (pairs_on s cs)) _ (settle_is_fault s cs out) ∙ all_pass (sheet_fault s) (length out) (joints s) _ r.0 r.1 z
 
 -- two calls that refuse nothing
-pub settle_same : (s cs ds out out' : List ℕ) → settled_number (settle_answer s cs out) ≡ 0 → settled_number (settle_answer s ds out') ≡ 0
+pub settle_same : (s cs ds out out' : List ℕ) → fault_in (settle_answer s cs out) ≡ 0 → fault_in (settle_answer s ds out') ≡ 0
     → settle_answer s cs out ≡ settle_answer s ds out'
 settle_same s cs ds out out' h g =
     let y = settle_unrefused s cs out h in
@@ -180,9 +188,9 @@ settle_same s cs ds out out' h g =
     let q = settle_ran s ds out' z in
     let e : answer_of (joints s) (settles_by (joints s) (square_of s) cs).work_is ≡ answer_of (joints s) (settles_by (joints s) (square_of s) ds).work_is
     = (record_demands s p.0).one_answer cs ds p.2 q.2 in
-    settle_ends s cs out y ∙ settled_for (verdict_on s cs) (pairs_on s cs)
-    ∙ ap (λ (a : Answer). ended_as a.verdict a.count) e
-    ∙ sym (settled_for (verdict_on s ds) (pairs_on s ds)) ∙ sym (settle_ends s ds out' z)
+    settle_ends s cs out y ∙ ap Ok (settled_for (verdict_on s cs) (pairs_on s cs))
+    ∙ ap (λ (a : Answer). Ok (ended_as a.verdict a.count)) e
+    ∙ sym (ap Ok (settled_for (verdict_on s ds) (pairs_on s ds))) ∙ sym (settle_ends s ds out' z)
 
 -- EVERY SUPER-STABLE MATCHING has as many pairs as settle's: the same joints are paired
 alone_alike : (n : ℕ) (m o : List ℕ) → length m ≡ n → length o ≡ n → ((a : ℕ) → a < n → is_alone m a ≡ is_alone o a) → paired_joints m ≡ paired_joints o

@@ -2,7 +2,7 @@
 use mathlib.Core.Path.{◌≡◌, refl, sym, ap, ◌∙◌}
 use mathlib.Core.Bool.{false}
 use mathlib.Core.List.{List, [], ◌∷◌, ◌++◌}
-use mathlib.Core.Logic.{◌⊎◌, inr, ◌≢◌, ◌↔◌}
+use mathlib.Core.Logic.{◌⊎◌, inr, ◌↔◌}
 use Prim.Native.Nat.{ℕ, zero, suc, ◌+◌, ◌*◌, ◌/◌, ◌%◌, ◌≤◌}
 use native.Mathlib.Omega.{arith}
 use lib.ListN.{length, take}
@@ -21,7 +21,6 @@ use Rattle.roommates.specs.declared.Stage.TheVariants.{NoneOne, Paired}
 use Rattle.roommates.specs.PhaseOne.{Work}
 use Rattle.roommates.specs.Runs.{OneEnded, Arrived}
 use Rattle.roommates.specs.Left.{entry_count, list_bytes}
-use Rattle.roommates.proofs.Sound.{promise_sound}
 use Rattle.roommates.proofs.EntriesListed.{all_listed, pairs_half}
 use Rattle.roommates.proofs.EntriesWritten.{bytes_length}
 use Rattle.roommates.proofs.Stages.{one_paired}
@@ -34,19 +33,21 @@ use Rattle.relisting.proofs.Strikes.{shorten_strikes}
 use Rattle.relisting.proofs.LeftWritten.{written_entries}
 use Rattle.relisting.proofs.Rereading.{reads_back, written_returned}
 use Rattle.records.specs.Records.{is_odd, shortens_by}
-use Rattle.records.proofs.RecordDemands.{worked_by_arrives, worked_by_ends, record_demands}
+use Rattle.records.proofs.RecordDemands.{worked_by_arrives, record_demands}
 use Rattle.records.proofs.RecordRefusals.{refusal_number, not_twelve, record_refusals}
 use Rattle.calls.specs.declared.Phase.TheVariants as P
 use Rattle.calls.specs.declared.End.TheVariants as E
-use Rattle.calls.specs.declared.Settled.TheVariants as S
-use Rattle.calls.specs.declared.Shortened.TheVariants as L
-use Rattle.calls.specs.Calls.{settled_number, shortened_number, left_of, shorten_call, listed_as, settle_answer, shorten_answer, shorten_bytes, counts_of}
+use Rattle.refusals.specs.Numbers.{fault_of, fault_in, RefusedAs}
+use Rattle.refusals.proofs.Numbers.{IsFault, answered_none, value_answered, refused_as, fault_answered}
+use Rattle.std.proofs.Common.{Option, Some, None, Ok}
+use lib.Dec.{ltb}
+use Rattle.calls.specs.Calls.{left_of, shorten_call, listed_as, settle_answer, shorten_answer, shorten_bytes, counts_of}
 use Rattle.promises.specs.Claims.{ListsAre, Refuses}
-use Rattle.calls.proofs.Answers.{Fair, shortened_number_lem, shortened_says, shortened_lists, settled_none_one, unwritten, unpaired_unwritten}
+use Rattle.calls.proofs.Answers.{choice_is_fault, faults_are, shortened_lists, settled_none_one, unwritten, unpaired_unwritten}
 use Rattle.calls.proofs.LawsCalls.{left_fits}
 use Rattle.promises.proofs.Refusals.{no_fault, all_pass, refuses}
-use Rattle.promises.proofs.SettleKeeps.{Over, over_is, counts_number, settle_ran, settle_unrefused, settle_ends, verdict_on, pairs_on}
-use Rattle.sheet.proofs.Numbers.{sheet_not, sheet_numbers}
+use Rattle.promises.proofs.SettleKeeps.{Over, over_is, counts_first, settle_ran, settle_is_fault, settle_unrefused, settle_ends, verdict_on, pairs_on}
+use Rattle.sheet.proofs.Numbers.{sheet_not, sheet_numbers, sheet_is_fault}
 use Rattle.sheet.proofs.Sizes.{accepted_sizes}
 
 -- the first two bytes of lists
@@ -55,9 +56,9 @@ unfolding list_bytes
 count_bytes_lem n t rest = refl
 
 -- none is known by its verdict
-none_one_only : (v : Stage) (c : ℕ) → (v ≡ NoneOne) ⊎ (v ≡ Paired) → listed_as v c ≡ L.None ↔ (v ≡ NoneOne)
+none_one_only : (v : Stage) (c : ℕ) → (v ≡ NoneOne) ⊎ (v ≡ Paired) → listed_as v c ≡ None ↔ (v ≡ NoneOne)
 none_one_only v c says = (
-  λ h. case says (λ e. e) (λ e. let i : L.Lists c ≡ L.None = ap (λ (x : Stage). listed_as x c) (sym e) ∙ h in absurd (unlike cc)),
+  λ h. case says (λ e. e) (λ e. let i : Some c ≡ None = ap (λ (x : Stage). listed_as x c) (sym e) ∙ h in absurd (unlike cc)),
   λ e. ap (λ (x : Stage). listed_as x c) e,
 )
 
@@ -86,54 +87,58 @@ module _ (s cs out : List ℕ) where
   pub shorten_ran : fault ≡ 0 → (sheet_fault s ≡ 0) × (2 + 3 * rank_count s ≤ length out) × Unrefused s cs
   shorten_ran = no_fault (sheet_fault s) (length out) (2 + 3 * rank_count s) _
 
-  pub shorten_unrefused : shortened_number (shorten_answer s cs out) ≡ 0 → fault ≡ 0
-  shorten_unrefused h = sym (shortened_number_lem fault (ends_on s cs) (entries_on s cs)) ∙ h
+  pub shorten_is_fault : IsFault fault
+  shorten_is_fault =
+      faults_are (sheet_fault s) (ltb (length out) (2 + 3 * rank_count s)) _ (sheet_is_fault s) (choice_is_fault false (joints s) (square_of s) cs)
 
-  shorten_ends : fault ≡ 0 → shorten_answer s cs out ≡ listed_as (ends_on s cs) (entries_on s cs)
-  shorten_ends h = rw h
+  pub shorten_unrefused : fault_in (shorten_answer s cs out) ≡ 0 → fault ≡ 0
+  shorten_unrefused h = sym (fault_answered (listed_as (ends_on s cs) (entries_on s cs)) fault shorten_is_fault) ∙ h
 
-  fair : Fair fault (ends_on s cs)
-  fair z = let r = shorten_ran z in worked_by_ends false (joints s) (square_of s) (promise_sound (accepted_square s r.0)) cs r.2
+  shorten_ends : fault ≡ 0 → shorten_answer s cs out ≡ Ok (listed_as (ends_on s cs) (entries_on s cs))
+  shorten_ends h = sym (answered_none _ fault h)
 
-  says : (k : ℕ) → shorten_answer s cs out ≡ L.Refused k ↔ ((fault ≡ k) × (1 ≤ k))
-  says k = shortened_says fault (ends_on s cs) (entries_on s cs) k fair
+  -- what it lists
+  shorten_lists_as : (o : Option ℕ) → shorten_answer s cs out ≡ Ok o → listed_as (ends_on s cs) (entries_on s cs) ≡ o
+  shorten_lists_as o h = (value_answered _ fault o shorten_is_fault h).1
 
-  pub shorten_first : (k : ℕ) → shorten_answer s cs out ≡ L.Refused k ↔ First k (shorten_call s cs out).faults
+  says : (k : ℕ) → RefusedAs (shorten_answer s cs out) k ↔ ((fault ≡ k) × (1 ≤ k))
+  says = refused_as (listed_as (ends_on s cs) (entries_on s cs)) fault shorten_is_fault
+
+  pub shorten_first : (k : ℕ) → RefusedAs (shorten_answer s cs out) k ↔ First k (shorten_call s cs out).faults
   shorten_first k =
       let b = first_answered (shorten_call s cs out).faults k in
       (λ h. b.0 ((says k).0 h), λ h. (says k).1 (b.1 h))
 
-  pub shorten_refuses : Refuses (sheet_fault s) (counts_of false s cs).number (2 + 3 * rank_count s) (length out) (λ k. shorten_answer s cs out ≡ L.Refused k)
+  pub shorten_refuses : Refuses (sheet_fault s) (fault_of (counts_of false s cs).refusal) (2 + 3 * rank_count s) (length out) (λ k. RefusedAs (shorten_answer s cs out) k)
   shorten_refuses =
-      rw (counts_number (sheet_fault s) (shortens_by (joints s) (square_of s) cs))
+      rw (counts_first false s cs)
       (refuses (sheet_fault s) (length out) (2 + 3 * rank_count s) (shortens_by (joints s) (square_of s) cs).refusal (sheet_numbers s)
       (refusal_number false (joints s) (square_of s) cs)
-      (λ k. shorten_answer s cs out ≡ L.Refused k)
+      (RefusedAs (shorten_answer s cs out))
       says)
 
-  pub shorten_unwritten : (k : ℕ) → shorten_answer s cs out ≡ L.Refused k → shorten_bytes s cs out ≡ out
+  pub shorten_unwritten : (k : ℕ) → RefusedAs (shorten_answer s cs out) k → shorten_bytes s cs out ≡ out
   shorten_unwritten k h = let r = (says k).0 h in unwritten fault (ends_on s cs) _ out (omega (arith, r.0, r.1))
 
-  pub shorten_none : shorten_answer s cs out ≡ L.None → shorten_bytes s cs out ≡ out
+  pub shorten_none : shorten_answer s cs out ≡ Ok None → shorten_bytes s cs out ≡ out
   shorten_none h =
-      let z = shorten_unrefused (ap shortened_number h) in
-      let e : listed_as (ends_on s cs) (entries_on s cs) ≡ L.None = sym (shorten_ends z) ∙ h in
+      let e = shorten_lists_as None h in
       unpaired_unwritten fault (ends_on s cs) _ out
-      (λ i. let j : L.Lists (entries_on s cs) ≡ L.None = ap (λ (x : Stage). listed_as x (entries_on s cs)) (sym i) ∙ e in unlike cc)
+      (λ i. let j : Some (entries_on s cs) ≡ None = ap (λ (x : Stage). listed_as x (entries_on s cs)) (sym i) ∙ e in unlike cc)
 
   -- a call that returns lists: where phase one ended, and what is written
-  module _ (k : ℕ) (h : shorten_answer s cs out ≡ L.Lists k) where
+  module _ (k : ℕ) (h : shorten_answer s cs out ≡ Ok (Some k)) where
     ran : (sheet_fault s ≡ 0) × (2 + 3 * rank_count s ≤ length out) × Unrefused s cs
-    ran = shorten_ran (shorten_unrefused (ap shortened_number h))
+    ran = shorten_ran (shorten_unrefused (ap fault_in h))
 
     verdict : (ends_on s cs ≡ Paired) × (entries_on s cs ≡ k)
-    verdict = shortened_lists (ends_on s cs) (entries_on s cs) k (sym (shorten_ends (shorten_unrefused (ap shortened_number h))) ∙ h)
+    verdict = shortened_lists (ends_on s cs) (entries_on s cs) k (shorten_lists_as (Some k) h)
 
     abbrev lists : Square
     lists = left_of (joints s) (square_of s) cs
 
     written : shorten_bytes s cs out ≡ over (list_bytes (joints s) lists) out
-    written = rw (shorten_unrefused (ap shortened_number h), verdict.0) refl
+    written = rw (shorten_unrefused (ap fault_in h), verdict.0) refl
 
     pub lists_over : Over (2 + 3 * k) (list_bytes (joints s) lists) out (shorten_bytes s cs out)
     lists_over =
@@ -184,11 +189,11 @@ module _ (s cs out : List ℕ) where
         }
 
 -- 12 is no refusal of shorten's
-pub shorten_not_12 : (s cs out : List ℕ) → shorten_answer s cs out ≢ L.Refused 12
+pub shorten_not_12 : (s cs out : List ℕ) → RefusedAs (shorten_answer s cs out) 12 → ⊥
 shorten_not_12 s cs out h =
     let c = (shortens_by (joints s) (square_of s) cs).refusal in
     let e : first_fault (sheet_fault s ∷ (c ∷ [])) ≡ 12
-    = sym (counts_number (sheet_fault s) (shortens_by (joints s) (square_of s) cs)) ∙ (((shorten_refuses s cs out).by_choice 12 (omega arith) (omega arith)).0 h).1 in
+    = sym (counts_first false s cs) ∙ (((shorten_refuses s cs out).by_choice 12 (omega arith) (omega arith)).0 h).1 in
     go (sheet_fault s) refl e
   where
     go : (f : ℕ) → sheet_fault s ≡ f → first_fault (f ∷ ((shortens_by (joints s) (square_of s) cs).refusal ∷ [])) ≡ 12 → ⊥
@@ -197,11 +202,11 @@ shorten_not_12 s cs out h =
     go (suc k) z e = let i : suc k ≡ 12 = sym (fault_stops (suc k) _ (λ x. omega arith)) ∙ e in sheet_not s 12 (omega arith) (omega arith) (z ∙ i)
 
 -- RECORDS left off earlier
-pub shorten_beginning : (s cs ds out : List ℕ) → is_odd (length cs) ≡ false → shortened_number (shorten_answer s (cs ++ ds) out) ≡ 0 → shortened_number (shorten_answer s cs out) ≡ 0
+pub shorten_beginning : (s cs ds out : List ℕ) → is_odd (length cs) ≡ false → fault_in (shorten_answer s (cs ++ ds) out) ≡ 0 → fault_in (shorten_answer s cs out) ≡ 0
 shorten_beginning s cs ds out even h =
     let r = shorten_ran s (cs ++ ds) out (shorten_unrefused s (cs ++ ds) out h) in
     let z = (record_refusals false (joints s) (square_of s) cs).beginning ds even r.2 in
-    shortened_number_lem _ (ends_on s cs) (entries_on s cs) ∙ all_pass (sheet_fault s) (length out) (2 + 3 * rank_count s) _ r.0 r.1 z
+    fault_answered (listed_as (ends_on s cs) (entries_on s cs)) _ (shorten_is_fault s cs out) ∙ all_pass (sheet_fault s) (length out) (2 + 3 * rank_count s) _ r.0 r.1 z
 
 -- TWO CALLS that refuse nothing
 same_none_one : (s cs ds : List ℕ) (f : sheet_fault s ≡ 0) → Unrefused s cs → Unrefused s ds → ends_on s cs ≡ NoneOne → ends_on s ds ≡ NoneOne
@@ -224,32 +229,32 @@ same_listing s cs ds f y z =
     let l = bytes_length (joints s) (left_of (joints s) (square_of s) cs) in
     let m = bytes_length (joints s) (left_of (joints s) (square_of s) ds) in
     let k : entries_on s cs ≡ entries_on s ds = omega arith in
-    rw (e, g) (ap L.Lists k)))
+    rw (e, g) (ap Some k)))
 
 module _ (s cs ds out out' : List ℕ) where
-  pub shorten_same : shortened_number (shorten_answer s cs out) ≡ 0 → shortened_number (shorten_answer s ds out') ≡ 0
+  pub shorten_same : fault_in (shorten_answer s cs out) ≡ 0 → fault_in (shorten_answer s ds out') ≡ 0
       → shorten_answer s cs out ≡ shorten_answer s ds out'
   shorten_same h g =
       let y = shorten_unrefused s cs out h in
       let z = shorten_unrefused s ds out' g in
       let p = shorten_ran s cs out y in
       let q = shorten_ran s ds out' z in
-      shorten_ends s cs out y ∙ same_listing s cs ds p.0 p.2 q.2 ∙ sym (shorten_ends s ds out' z)
+      shorten_ends s cs out y ∙ ap Ok (same_listing s cs ds p.0 p.2 q.2) ∙ sym (shorten_ends s ds out' z)
 
-  pub same_bytes : (k : ℕ) → shorten_answer s cs out ≡ L.Lists k → shorten_answer s ds out' ≡ L.Lists k
+  pub same_bytes : (k : ℕ) → shorten_answer s cs out ≡ Ok (Some k) → shorten_answer s ds out' ≡ Ok (Some k)
       → take (2 + 3 * k) (shorten_bytes s cs out) ≡ take (2 + 3 * k) (shorten_bytes s ds out')
   same_bytes k h g =
-      let y = shorten_unrefused s cs out (ap shortened_number h) in
+      let y = shorten_unrefused s cs out (ap fault_in h) in
       let p = shorten_ran s cs out y in
-      let q = shorten_ran s ds out' (shorten_unrefused s ds out' (ap shortened_number g)) in
-      let v = shortened_lists (ends_on s cs) (entries_on s cs) k (sym (shorten_ends s cs out y) ∙ h) in
+      let q = shorten_ran s ds out' (shorten_unrefused s ds out' (ap fault_in g)) in
+      let v = shortened_lists (ends_on s cs) (entries_on s cs) k (shorten_lists_as s cs out (Some k) h) in
       (lists_over s cs out k h).first
       ∙ (record_demands s p.0).same_lists cs ds p.2 q.2 (λ i. one_paired i v.0)
       ∙ sym (lists_over s ds out' k g).first
 
   -- none in phase one
-  pub same_none : shortened_number (shorten_answer s cs out) ≡ 0 → settled_number (settle_answer s ds out') ≡ 0
-      → (shorten_answer s cs out ≡ L.None) ↔ (settle_answer s ds out' ≡ S.Ended (E.None P.One))
+  pub same_none : fault_in (shorten_answer s cs out) ≡ 0 → fault_in (settle_answer s ds out') ≡ 0
+      → (shorten_answer s cs out ≡ Ok None) ↔ (settle_answer s ds out' ≡ Ok (E.None P.One))
   same_none h g =
       let y = shorten_unrefused s cs out h in
       let z = settle_unrefused s ds out' g in
@@ -260,5 +265,7 @@ module _ (s cs ds out out' : List ℕ) where
       let b = settle_ends s ds out' z in
       let n = none_one_only (ends_on s cs) (entries_on s cs) (d.shorten_says cs p.2) in
       let m = settled_none_one (verdict_on s ds) (pairs_on s ds) in
-      let i = d.shorten_none cs ds p.2 q.2 in
-      (λ e. b ∙ m.1 (i.0 (n.0 (sym a ∙ e))), λ e. a ∙ n.1 (i.1 (m.0 (sym b ∙ e))))
+      let i = d.shorten_none cs ds p.2 q.2 in (
+        λ e. b ∙ ap Ok (m.1 (i.0 (n.0 (shorten_lists_as s cs out None e)))),
+        λ e. a ∙ ap Ok (n.1 (i.1 (m.0 (value_answered _ _ (E.None P.One) (settle_is_fault s ds out') e).1))),
+      )

@@ -1,7 +1,8 @@
 -- What a caller of settle, shorten and the counts may conclude from their answers and from the buffer after them.
 use Rattle.std.specs.Prelude.{◌≡◌, Bool, true, false, List, [], ◌∷◌, ◌++◌, ◌⊎◌, ◌≢◌, ◌↔◌, ℕ, ◌+◌, ◌*◌, ◌/◌, ◌%◌, ◌≤◌, ◌<◌}
-use Rattle.std.specs.Prelude.{eqb, length, take, drop}
+use Rattle.std.specs.Prelude.{Some, None, Ok, eqb, length, take, drop}
 use Rattle.base.specs.Claims.{First}
+use Rattle.refusals.specs.Numbers.{fault_of, fault_in, RefusedAs}
 use Rattle.sections.specs.Entries.{band_in}
 use Rattle.sections.specs.Claims.{Each}
 use Rattle.square.specs.Mutual.{listed_pairs}
@@ -10,7 +11,6 @@ use Rattle.sheet.specs.Format.{joints, rank_count, count_start, entries_of}
 use Rattle.sheet.specs.Refusals.{sheet_fault}
 use Rattle.sheet.specs.Square.{at, square_of}
 use Rattle.sheet.specs.Claims.{OfSheet}
-use Rattle.blocking.specs.declared.Checked.TheVariants as C
 use Rattle.matching.specs.Matchings.{partner, pair_count, pair_number}
 use Rattle.blocking.specs.Blocking.{is_super_stable}
 use Rattle.matching.specs.Plain.{Matching}
@@ -30,9 +30,7 @@ use Rattle.offered.specs.Checks.{check_faults, check_of}
 use Rattle.calls.specs.declared.Phase.{Phase}
 use Rattle.calls.specs.declared.Phase.TheVariants as P
 use Rattle.calls.specs.declared.End.TheVariants as E
-use Rattle.calls.specs.declared.Settled.TheVariants as S
-use Rattle.calls.specs.declared.Shortened.TheVariants as L
-use Rattle.calls.specs.Calls.{settled_number, shortened_number, settle_call, settle_answer, settle_bytes, shorten_call, shorten_answer, shorten_bytes}
+use Rattle.calls.specs.Calls.{settle_call, settle_answer, settle_bytes, shorten_call, shorten_answer, shorten_bytes}
 use Rattle.calls.specs.Calls.{counts, counts_of}
 
 -- m is a super-stable matching of the sheet s
@@ -42,7 +40,7 @@ Super s m = is_super_stable (joints s) (square_of s) m ≡ true
 -- A pairing of k pairs: the first n bytes of the buffer `after`, which was `before`.
 pub record PairingIs (s before after : List ℕ) (k : ℕ) : Type 0 where
   pub super_stable : Super s (take (joints s) after)
-  pub checked : check_of s (take (joints s) after) ≡ C.Holds
+  pub checked : check_of s (take (joints s) after) ≡ Ok None
   pub pairs : pair_count (take (joints s) after) ≡ k
   pub at_most : k ≤ 64
   -- every super-stable matching pairs the same joints
@@ -84,39 +82,39 @@ pub record Refuses (f choice need room : ℕ) (Refused : ℕ → Type 0) : Type 
 
 pub record CallsKeep (s : List ℕ) : Type 0 where
   -- SETTLE. A pairing is super-stable. After none every matching is blocked, and none and a refusal write nothing.
-  pub settle_paired : (cs out : List ℕ) (k : ℕ) → settle_answer s cs out ≡ S.Ended (E.Paired k) → PairingIs s out (settle_bytes s cs out) k
-  pub settle_none : (cs out : List ℕ) (p : Phase) → settle_answer s cs out ≡ S.Ended (E.None p)
-      → (settle_bytes s cs out ≡ out) × ((m : List ℕ) → (is_super_stable (joints s) (square_of s) m ≡ false) × (check_of s m ≢ C.Holds))
-  pub settle_refused : (cs out : List ℕ) (k : ℕ) → settle_answer s cs out ≡ S.Refused k → settle_bytes s cs out ≡ out
+  pub settle_paired : (cs out : List ℕ) (k : ℕ) → settle_answer s cs out ≡ Ok (E.Paired k) → PairingIs s out (settle_bytes s cs out) k
+  pub settle_none : (cs out : List ℕ) (p : Phase) → settle_answer s cs out ≡ Ok (E.None p)
+      → (settle_bytes s cs out ≡ out) × ((m : List ℕ) → (is_super_stable (joints s) (square_of s) m ≡ false) × (check_of s m ≢ Ok None))
+  pub settle_refused : (cs out : List ℕ) (k : ℕ) → RefusedAs (settle_answer s cs out) k → settle_bytes s cs out ≡ out
   -- the first of its refusals is answered, and with no other number
-  pub settle_first : (cs out : List ℕ) (k : ℕ) → settle_answer s cs out ≡ S.Refused k ↔ First k (settle_call s cs out).faults
+  pub settle_first : (cs out : List ℕ) (k : ℕ) → RefusedAs (settle_answer s cs out) k ↔ First k (settle_call s cs out).faults
   pub settle_refuses : (cs out : List ℕ)
-      → Refuses (sheet_fault s) (counts_of true s cs).number (joints s) (length out) (λ k. settle_answer s cs out ≡ S.Refused k)
+      → Refuses (sheet_fault s) (fault_of (counts_of true s cs).refusal) (joints s) (length out) (λ k. RefusedAs (settle_answer s cs out) k)
   -- two calls that refuse nothing: the same verdict, phase and count of pairs
-  pub settle_same : (cs ds out out' : List ℕ) → settled_number (settle_answer s cs out) ≡ 0 → settled_number (settle_answer s ds out') ≡ 0
+  pub settle_same : (cs ds out out' : List ℕ) → fault_in (settle_answer s cs out) ≡ 0 → fault_in (settle_answer s ds out') ≡ 0
       → settle_answer s cs out ≡ settle_answer s ds out'
   -- SHORTEN. Only lists are written.
-  pub shorten_lists : (cs out : List ℕ) (k : ℕ) → shorten_answer s cs out ≡ L.Lists k → ListsAre s out (shorten_bytes s cs out) k
-  pub shorten_none : (cs out : List ℕ) → shorten_answer s cs out ≡ L.None → shorten_bytes s cs out ≡ out
-  pub shorten_refused : (cs out : List ℕ) (k : ℕ) → shorten_answer s cs out ≡ L.Refused k → shorten_bytes s cs out ≡ out
-  pub shorten_first : (cs out : List ℕ) (k : ℕ) → shorten_answer s cs out ≡ L.Refused k ↔ First k (shorten_call s cs out).faults
+  pub shorten_lists : (cs out : List ℕ) (k : ℕ) → shorten_answer s cs out ≡ Ok (Some k) → ListsAre s out (shorten_bytes s cs out) k
+  pub shorten_none : (cs out : List ℕ) → shorten_answer s cs out ≡ Ok None → shorten_bytes s cs out ≡ out
+  pub shorten_refused : (cs out : List ℕ) (k : ℕ) → RefusedAs (shorten_answer s cs out) k → shorten_bytes s cs out ≡ out
+  pub shorten_first : (cs out : List ℕ) (k : ℕ) → RefusedAs (shorten_answer s cs out) k ↔ First k (shorten_call s cs out).faults
   pub shorten_refuses : (cs out : List ℕ)
-      → Refuses (sheet_fault s) (counts_of false s cs).number (2 + 3 * rank_count s) (length out) (λ k. shorten_answer s cs out ≡ L.Refused k)
-  pub shorten_not_12 : (cs out : List ℕ) → shorten_answer s cs out ≢ L.Refused 12
+      → Refuses (sheet_fault s) (fault_of (counts_of false s cs).refusal) (2 + 3 * rank_count s) (length out) (λ k. RefusedAs (shorten_answer s cs out) k)
+  pub shorten_not_12 : (cs out : List ℕ) → RefusedAs (shorten_answer s cs out) 12 → ⊥
   -- two calls that refuse nothing: the same answer, and the same bytes written
-  pub shorten_same : (cs ds out out' : List ℕ) → shortened_number (shorten_answer s cs out) ≡ 0 → shortened_number (shorten_answer s ds out') ≡ 0
+  pub shorten_same : (cs ds out out' : List ℕ) → fault_in (shorten_answer s cs out) ≡ 0 → fault_in (shorten_answer s ds out') ≡ 0
       → shorten_answer s cs out ≡ shorten_answer s ds out'
-  pub same_bytes : (cs ds out out' : List ℕ) (k : ℕ) → shorten_answer s cs out ≡ L.Lists k → shorten_answer s ds out' ≡ L.Lists k
+  pub same_bytes : (cs ds out out' : List ℕ) (k : ℕ) → shorten_answer s cs out ≡ Ok (Some k) → shorten_answer s ds out' ≡ Ok (Some k)
       → take (2 + 3 * k) (shorten_bytes s cs out) ≡ take (2 + 3 * k) (shorten_bytes s ds out')
   -- shorten says none exactly where settle says none in phase one
-  pub same_none : (cs ds out out' : List ℕ) → shortened_number (shorten_answer s cs out) ≡ 0 → settled_number (settle_answer s ds out') ≡ 0
-      → (shorten_answer s cs out ≡ L.None) ↔ (settle_answer s ds out' ≡ S.Ended (E.None P.One))
+  pub same_none : (cs ds out out' : List ℕ) → fault_in (shorten_answer s cs out) ≡ 0 → fault_in (settle_answer s ds out') ≡ 0
+      → (shorten_answer s cs out ≡ Ok None) ↔ (settle_answer s ds out' ≡ Ok (E.None P.One))
   -- left off after any record, an even number of bytes: a beginning of records within the rules is within them
-  pub settle_beginning : (cs ds out : List ℕ) → is_odd (length cs) ≡ false → settled_number (settle_answer s (cs ++ ds) out) ≡ 0 → settled_number (settle_answer s cs out) ≡ 0
-  pub shorten_beginning : (cs ds out : List ℕ) → is_odd (length cs) ≡ false → shortened_number (shorten_answer s (cs ++ ds) out) ≡ 0 → shortened_number (shorten_answer s cs out) ≡ 0
+  pub settle_beginning : (cs ds out : List ℕ) → is_odd (length cs) ≡ false → fault_in (settle_answer s (cs ++ ds) out) ≡ 0 → fault_in (settle_answer s cs out) ≡ 0
+  pub shorten_beginning : (cs ds out : List ℕ) → is_odd (length cs) ≡ false → fault_in (shorten_answer s (cs ++ ds) out) ≡ 0 → fault_in (shorten_answer s cs out) ≡ 0
   -- 11 to 15: an odd number of bytes, or some record that may not come after the ones before it, for the reason that the number says
   pub choice_refused : (whole : Bool) (cs : List ℕ) (k : ℕ) → 11 ≤ k → k ≤ 15
-      → ((counts_of whole s cs).number ≡ k) ↔ ((sheet_fault s ≡ 0) × BytesRefused whole (joints s) (square_of s) cs k)
+      → (fault_of (counts_of whole s cs).refusal ≡ k) ↔ ((sheet_fault s ≡ 0) × BytesRefused whole (joints s) (square_of s) cs k)
   -- COUNTS, beside refused choices too: of settle's working (true) and of shorten's (false)
   pub counts_are : (whole : Bool) (cs : List ℕ) → sheet_fault s ≡ 0 → CountsAre whole s cs
   pub few_proposals : (whole : Bool) (cs : List ℕ) → (counts_of whole s cs).proposals ≤ joints s * joints s
@@ -127,7 +125,7 @@ pub record CallsKeep (s : List ℕ) : Type 0 where
   -- both are small whatever the sheet
   pub counts_small : (whole : Bool) (cs : List ℕ) → ((counts_of whole s cs).proposals ≤ 16384) × ((counts_of whole s cs).cuts ≤ 16384)
   -- without choices no accepted sheet is refused
-  pub no_choices : (whole : Bool) → sheet_fault s ≡ 0 → (counts_of whole s []).number ≡ 0
+  pub no_choices : (whole : Bool) → sheet_fault s ≡ 0 → fault_of (counts_of whole s []).refusal ≡ 0
 
 -- MARKS AND RETURNS. The steps standing after the records cs, as records of kind 0.
 abbrev pub standing_bytes : List ℕ → List ℕ
@@ -135,11 +133,11 @@ standing_bytes cs = step_bytes (standing (records_of cs))
 
 -- Where nothing is refused they alone get the same answer, write the same bytes and have the same counts.
 pub record CallReplayed (s cs : List ℕ) : Type 0 where
-  pub settle_replayed : (out : List ℕ) → settled_number (settle_answer s cs out) ≡ 0
+  pub settle_replayed : (out : List ℕ) → fault_in (settle_answer s cs out) ≡ 0
       → (settle_answer s cs out ≡ settle_answer s (standing_bytes cs) out) × (settle_bytes s cs out ≡ settle_bytes s (standing_bytes cs) out)
-  pub shorten_replayed : (out : List ℕ) → shortened_number (shorten_answer s cs out) ≡ 0
+  pub shorten_replayed : (out : List ℕ) → fault_in (shorten_answer s cs out) ≡ 0
       → (shorten_answer s cs out ≡ shorten_answer s (standing_bytes cs) out) × (shorten_bytes s cs out ≡ shorten_bytes s (standing_bytes cs) out)
-  pub counts_replayed : (whole : Bool) → (counts_of whole s cs).number ≡ 0 → counts_of whole s cs ≡ counts_of whole s (standing_bytes cs)
+  pub counts_replayed : (whole : Bool) → fault_of (counts_of whole s cs).refusal ≡ 0 → counts_of whole s cs ≡ counts_of whole s (standing_bytes cs)
   -- beside a refused record the counts are of the steps then standing, which take a fresh working there
   pub counts_beside : (whole : Bool) (k : ℕ) → sheet_fault s ≡ 0 → is_odd (length cs) ≡ false
       → (r : RecordRefused whole (joints s) (square_of s) (records_of cs) k) → counts_of whole s cs ≡ counts k r.there.proposals r.there.cuts
@@ -161,17 +159,17 @@ LongestIsCut = (s cs : List ℕ) (w : Work) → sheet_fault s ≡ 0 → Made tru
 
 -- CHECK, for every sheet s and offered pairing m.
 pub record CheckKeeps (s m : List ℕ) : Type 0 where
-  pub check_first : (k : ℕ) → check_of s m ≡ C.Refused k ↔ First k (check_faults s m)
-  pub check_numbers : (k : ℕ) → check_of s m ≡ C.Refused k → OfSheet k ⊎ (k ≡ 10)
+  pub check_first : (k : ℕ) → RefusedAs (check_of s m) k ↔ First k (check_faults s m)
+  pub check_numbers : (k : ℕ) → RefusedAs (check_of s m) k → OfSheet k ⊎ (k ≡ 10)
   -- a refused sheet hands on its number; 10: the sheet is accepted, and what is offered is no matching
-  pub check_sheet : (k : ℕ) → OfSheet k → check_of s m ≡ C.Refused k ↔ (sheet_fault s ≡ k)
-  pub check_ten : check_of s m ≡ C.Refused 10
+  pub check_sheet : (k : ℕ) → OfSheet k → RefusedAs (check_of s m) k ↔ (sheet_fault s ≡ k)
+  pub check_ten : RefusedAs (check_of s m) 10
       ↔ ((sheet_fault s ≡ 0) × ((length m ≡ joints s) × Matching (joints s) (at (square_of s)) (partner m) → ⊥))
   -- holds: the sheet is accepted, and what is offered is super-stable
-  pub check_holds : check_of s m ≡ C.Holds
+  pub check_holds : check_of s m ≡ Ok None
       ↔ (sheet_fault s ≡ 0) × (length m ≡ joints s) × SuperStable (joints s) (at (square_of s)) (partner m)
   -- blocked: the sheet is accepted, what is offered is a matching, and the number is that of the lowest blocking pair
-  pub check_blocked : (k : ℕ) → check_of s m ≡ C.Blocked k
+  pub check_blocked : (k : ℕ) → check_of s m ≡ Ok (Some k)
       ↔ (sheet_fault s ≡ 0)
       × ((length m ≡ joints s) × Matching (joints s) (at (square_of s)) (partner m))
       × LowestBlocking (joints s) (at (square_of s)) (partner m) k
@@ -192,9 +190,9 @@ pub record OneSided (s : List ℕ) : Type 0 where
   pub shorten_alike : (cs out : List ℕ) → 2 + 3 * rank_count s ≤ length out → ShortenedAlike s (without s) cs out
   -- An offered pairing in which one of two partners has no entry for the other is refused by 10.
   pub offered_ten : (m : List ℕ) (a : ℕ) → a < joints s → partner m a ≢ 255
-      → (band_in (entries_of s) a (partner m a) ≡ 0) ⊎ (band_in (entries_of s) (partner m a) a ≡ 0) → check_of s m ≡ C.Refused 10
+      → (band_in (entries_of s) a (partner m a) ≡ 0) ⊎ (band_in (entries_of s) (partner m a) a ≡ 0) → RefusedAs (check_of s m) 10
   -- Only two joints that list each other block.
-  pub blocked_both : (m : List ℕ) (k : ℕ) → check_of s m ≡ C.Blocked k
+  pub blocked_both : (m : List ℕ) (k : ℕ) → check_of s m ≡ Ok (Some k)
       → (a : ℕ) × (b : ℕ) × (k ≡ pair_number a b) × (0 < band_in (entries_of s) a b) × (0 < band_in (entries_of s) b a)
 
 abbrev pub Unlisted : Type 0

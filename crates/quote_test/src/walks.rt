@@ -1,101 +1,89 @@
 // Choices for a sheet: a mark and some steps within the rules; after them nothing, a return, or what is refused.
-use replay::{Choices, is_refused, longer, none, with_record};
-use rules::{Work, allowed, answered, any_of, chosen, ended, fresh};
+use replay::{Choices, Record, longer};
+use rules::{Said, Work, any_of};
 use samples::next;
 
-// Choices, and what becomes of the working: the number of a refusal, 101 or 102 for none with its phase, 200 and the count of pairs.
-#[derive(Clone, Copy)]
+// Choices, and what becomes of the working: an end, or the number of a refusal.
+#[derive(Drop)]
 pub struct Walk {
     pub list: Choices,
-    pub number: u32,
+    pub end: Result<Said, u8>,
 }
 
 // Steps, the working after them, and where the generator stands.
-#[derive(Clone, Copy)]
+#[derive(Drop)]
 struct Path {
     at: u32,
     list: Choices,
     work: Work,
 }
 
-// A step more, of any joint that is allowed, if one is.
-fn with_step(path: Path) -> Path {
-    let work = path.work;
-    let set = allowed(work);
-    if set == 0 {
-        return path;
-    }
-    let at = next(path.at);
-    let joint = any_of(set, at);
-    Path {
-        at: at,
-        list: with_record(path.list, 0, joint),
-        work: chosen(work, joint),
-    }
-}
-
-// Mark 3, and up to `most` steps.
-fn steps(start: Work, seed: u32, most: u32) -> Path {
+// Mark 3, and up to `most` steps of any joints that are allowed.
+fn steps(start: &Work, seed: u32, most: u32) -> Path {
     let mut path = Path {
         at: seed,
-        list: with_record(none(), 1, 3),
-        work: start,
+        list: longer(&Choices::new(), &Record::Mark(3).bytes()),
+        work: *start,
     };
-    let mut i = 0;
-    while i < most {
-        let more = with_step(path);
-        path = more;
-        i += 1;
+    for _ in 0..most {
+        let joints = path.work.allowed();
+        if joints == 0 {
+            break;
+        }
+        path.at = next(path.at);
+        let joint = any_of(joints, path.at);
+        path.list = longer(&path.list, &Record::Step(joint).bytes());
+        path.work.choose(joint);
     }
     path
 }
 
-fn ending(list: Choices, number: u32) -> Walk {
-    Walk {
-        list: list,
-        number: number,
-    }
-}
-
 // What becomes of a working without choices.
-fn number_of(start: Work) -> u32 {
-    let answer = answered(ended(start));
-    answer.number
+fn end_of(start: &Work) -> Result<Said, u8> {
+    start.ended().answered().said
 }
 
 // What becomes of one that a step is made in, which may be refused.
-fn number_after(start: Work, work: Work, joint: u8) -> u32 {
-    let after = chosen(work, joint);
-    if is_refused(after) {
-        return after.stage;
+fn end_after(start: &Work, mut work: Work, joint: u8) -> Result<Said, u8> {
+    work.choose(joint);
+    if work.is_refused() {
+        return work.answered().said;
     }
-    number_of(start)
+    end_of(start)
+}
+
+fn ending(list: &Choices, bytes: &[u8], end: Result<Said, u8>) -> Walk {
+    Walk {
+        list: longer(list, bytes),
+        end,
+    }
 }
 
 // Up to 11 steps, and what comes last: of sixteen, a byte more; a byte more after a refused record; no kind; a mark that is not set, to
 // return to; no mark, to return to and to set; a step of any number up to 9, and of no joint; a return to the start; or nothing. Where
 // nothing is refused, what becomes of the working is what becomes of it without choices.
-pub fn drawn_walk(n: usize, bands: [u8; 64], seed: u32) -> Walk {
-    let start = fresh(n, bands, true);
+pub fn drawn_walk(start: &Work, seed: u32) -> Walk {
     let path = steps(start, seed, seed / 16 % 12);
-    let list = path.list;
+    let list = &path.list;
     let joint = (seed % 65537 / 192 % 10) as u8;
     match seed % 16 {
-        0 => ending(longer(list, 0), 14),
-        1 => ending(longer(with_record(list, 0, 200), 0), 14),
-        2 => ending(with_record(list, 3, 0), 14),
-        3 => ending(with_record(list, 2, 5), 15),
-        4 => ending(with_record(list, 2, 8), 15),
-        5 => ending(with_record(list, 1, 8), 15),
+        0 => ending(list, &[0], Err(14)),
+        1 => ending(list, &[0, 200, 0], Err(14)),
+        2 => ending(list, &[3, 0], Err(14)),
+        3 => ending(list, &Record::Return(5).bytes(), Err(15)),
+        4 => ending(list, &Record::Return(8).bytes(), Err(15)),
+        5 => ending(list, &Record::Mark(8).bytes(), Err(15)),
         6 => ending(
-            with_record(list, 0, 200),
-            number_after(start, path.work, 200),
+            list,
+            &Record::Step(200).bytes(),
+            end_after(start, path.work, 200),
         ),
         7 | 8 => ending(
-            with_record(list, 0, joint),
-            number_after(start, path.work, joint),
+            list,
+            &Record::Step(joint).bytes(),
+            end_after(start, path.work, joint),
         ),
-        9 => ending(with_record(list, 2, 3), number_of(start)),
-        _ => ending(list, number_of(start)),
+        9 => ending(list, &Record::Return(3).bytes(), end_of(start)),
+        _ => ending(list, &[], end_of(start)),
     }
 }

@@ -1,7 +1,7 @@
 -- Laws of the refusals' numbers.
-use Rattle.std.proofs.Common.{◌≡◌, ◌≢◌, ℕ, zero, suc, ◌+◌, ◌≤◌, ◌<◌, ◌⊎◌, inl, inr, List, [], ◌∷◌, Option, Some, None, Result, Ok, Err, refl, sym, ap, ◌∙◌, arith, rules, get_or}
+use Rattle.std.proofs.Common.{◌≡◌, ◌≢◌, ℕ, zero, suc, ◌+◌, ◌≤◌, ◌<◌, ◌⊎◌, ◌↔◌, inl, inr, List, [], ◌∷◌, Option, Some, None, Result, Ok, Err, refl, sym, ap, ◌∙◌, arith, rules, get_or}
 use Rattle.base.proofs.Cases.{case}
-use Rattle.refusals.specs.Numbers.{number_of, by_number, refusal_of, unless, answered, fault_of, fault_in}
+use Rattle.refusals.specs.Numbers.{number_of, by_number, refusal_of, unless, answered, fault_of, fault_in, RefusedAs}
 use Rattle.refusals.specs.Claims.{NumberedOnce}
 use Rattle.refusals.specs.declared.Refusal.{Refusal}
 use Rattle.refusals.specs.declared.Refusal.TheVariants.{
@@ -172,3 +172,16 @@ module _ {A : Type 0} (value : A) (k : ℕ) where
   pub refused_on : {B : Type 0} (other : B) (r : Result A Refusal) (s : Result B Refusal) (e : Refusal) → r ≡ answered k value → r ≡ Err e → s ≡ Err e
       → s ≡ answered k other
   refused_on other r s e from here there = there ∙ refused_alike other e (sym from ∙ here)
+
+  -- exactly the refusal of the fault is answered
+  pub refused_as : IsFault k → (j : ℕ) → RefusedAs (answered k value) j ↔ ((k ≡ j) × (1 ≤ j))
+  refused_as h j = (
+    λ told. let e = refusal_answered told.0 told.1 in (sym e ∙ told.2, omega (arith, number_some told.0, told.2)),
+    λ e. case h
+        (λ z. absurd (omega (arith, z, e.0, e.1)))
+        (λ s. (s.0, sym (answered_refused value k s.0 s.1), s.1 ∙ e.0)),
+  )
+
+  -- .. and exactly a value where there is no fault
+  pub value_as : IsFault k → (other : A) → answered k value ≡ Ok other ↔ ((k ≡ 0) × (value ≡ other))
+  value_as h other = (value_answered other h, λ e. sym (answered_none value k e.0) ∙ ap Ok e.1)

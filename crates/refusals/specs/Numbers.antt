@@ -1,5 +1,5 @@
 -- The refusals' numbers, by which documents, C and printed texts know them.
-use Rattle.std.specs.Prelude.{List, [], ◌∷◌, ℕ, Option, Some, None, Result, Ok, Err, get_or}
+use Rattle.std.specs.Prelude.{◌≡◌, List, [], ◌∷◌, ℕ, Option, Some, None, Result, Ok, Err, get_or}
 use Rattle.refusals.specs.declared.Refusal.{Refusal}
 use Rattle.refusals.specs.declared.Refusal.TheVariants.{
   SheetCutShort,
@@ -90,3 +90,7 @@ fault_of (Some refusal) = number_of refusal
 abbrev pub fault_in : {A : Type 0} → Result A Refusal → ℕ
 fault_in (Ok value) = 0
 fault_in (Err refusal) = number_of refusal
+
+-- an answer is the refusal with a number
+abbrev pub RefusedAs : {A : Type 0} → Result A Refusal → ℕ → Type 0
+RefusedAs answer k = (r : Refusal) × (answer ≡ Err r) × (number_of r ≡ k)

@@ -1,169 +1,122 @@
 // Records for the test programs: the steps standing are worked out from the records alone and replayed by the rules.
 #![tactic(auto)]
 
-ghost use Rattle.std.specs.Prelude.{◌<◌, ◌≤◌};
+ghost use Rattle.std.specs.Prelude.{◌<◌, ◌≤◌, IfSome, length};
 
-use rules::{Work, chosen};
+use arrayvec::ArrayVec;
+use rules::{Stage, Work};
 
-// Bytes of choices, and how many there are.
-#[derive(Clone, Copy)]
-pub struct Choices {
-    pub bytes: [u8; 64],
-    pub len: usize,
+// Bytes of choices: two for each record, and perhaps one more.
+pub type Choices = ArrayVec<u8, 64>;
+
+// A record that a list may have: a step of a joint, a mark set, a return to a mark.
+#[derive(Clone, Copy, PartialEq, Eq)]
+pub enum Record {
+    Step(u8),
+    Mark(u8),
+    Return(u8),
 }
 
-// No choices.
-pub fn none() -> Choices {
-    Choices {
-        bytes: [255u8; 64],
-        len: 0,
+impl Record {
+    // None for two bytes of no kind, which no TryFrom's error would say more of.
+    pub fn read(bytes: [u8; 2]) -> Option<Record> {
+        match bytes {
+            [0, joint] => Some(Record::Step(joint)),
+            [1, mark] => Some(Record::Mark(mark)),
+            [2, mark] => Some(Record::Return(mark)),
+            _ => None,
+        }
+    }
+
+    pub fn bytes(self) -> [u8; 2] {
+        match self {
+            Record::Step(joint) => [0, joint],
+            Record::Mark(mark) => [1, mark],
+            Record::Return(mark) => [2, mark],
+        }
     }
 }
 
-// The choices and a byte more.
-pub fn longer(list: Choices, byte: u8) -> Choices {
-    let mut more = list;
-    let at = more.len;
-    if at < 64 {
-        more.bytes[at] = byte;
-        more.len = at + 1;
-    }
+// The choices, and bytes more if there is room.
+pub fn longer(list: &Choices, bytes: &[u8]) -> Choices {
+    let mut more = ArrayVec::new();
+    let _ = more.try_extend_from_slice(list);
+    let _ = more.try_extend_from_slice(bytes);
     more
 }
 
-// The choices and a record more.
-pub fn with_record(list: Choices, kind: u8, number: u8) -> Choices {
-    longer(longer(list, kind), number)
+// The last record that sets a mark.
+fn last_set(records: &[[u8; 2]], mark: u8) -> Option<usize>
+    ensures { IfSome result (λ k. k < length records.now) }
+{
+    records
+        .iter()
+        .rposition(|record| *record == Record::Mark(mark).bytes())
 }
 
-fn kind_of(list: Choices, i: usize) -> u8
-    requires { i < 32 }
+// Before which records do the steps stand that stand after a list of them and one more: those where its mark was last set, for a return.
+fn standing_before(records: &[[u8; 2]], last: [u8; 2]) -> &[[u8; 2]]
+    ensures { length result.now ≤ length records.now }
 {
-    list.bytes[2 * i]
-}
-
-fn number_of(list: Choices, i: usize) -> u8
-    requires { i < 32 }
-{
-    list.bytes[2 * i + 1]
-}
-
-fn sets(list: Choices, i: usize, m: u8) -> bool
-    requires { i < 32 }
-{
-    if kind_of(list, i) != 1 {
-        return false;
+    let Some(Record::Return(mark)) = Record::read(last) else {
+        return records;
+    };
+    match last_set(records, mark) {
+        Some(k) => &records[..k],
+        None => records,
     }
-    number_of(list, i) == m
 }
 
-// The last record before i that sets mark m, and i where none does.
-fn last_set(list: Choices, i: usize, m: u8) -> usize
-    requires { i < 32 }
-    ensures { result ≤ i }
-{
-    let mut k = i;
-    while 0 < k {
-        if sets(list, k - 1, m) {
-            return k - 1;
+// The joints of the steps standing after records, the last of them first. No `for`, since a return jumps back to where its mark was set.
+fn standing(records: &[[u8; 2]]) -> ArrayVec<u8, 32> {
+    let mut back = ArrayVec::new();
+    let mut rest = records;
+    while let Some((last, before)) = rest.split_last() {
+        if let Some(Record::Step(joint)) = Record::read(*last) {
+            let _ = back.try_push(joint);
         }
-        k -= 1;
-    }
-    i
-}
-
-// Before which record do the steps stand that stand before i, or, if i is a return, where its mark was last set?
-fn from(list: Choices, i: usize) -> usize
-    requires { i < 32 }
-    ensures { result ≤ i }
-{
-    if kind_of(list, i) == 2 {
-        return last_set(list, i, number_of(list, i));
-    }
-    i
-}
-
-// The steps standing after so many records, the last of them first.
-fn standing(list: Choices, count: usize) -> Choices
-    requires { count ≤ 32 }
-{
-    let mut back = none();
-    let mut i = count;
-    while 0 < i {
-        if kind_of(list, i - 1) == 0 {
-            back = longer(back, number_of(list, i - 1));
-        }
-        i = from(list, i - 1);
+        rest = standing_before(before, *last);
     }
     back
 }
 
-// A fresh working after the steps standing, in order.
-fn replayed(fresh: Work, back: Choices) -> Work {
-    let mut next = fresh;
-    let mut i = back.len % 65;
-    while 0 < i {
-        i -= 1;
-        next = chosen(next, back.bytes[i]);
-    }
-    next
-}
-
-// 14 for a kind above 2; 15 for a mark above 7, or a return to one not set; else 0.
-fn fault(list: Choices, i: usize) -> u32
-    requires { i < 32 }
-{
-    let kind = kind_of(list, i);
-    if 2 < kind {
-        return 14;
-    }
-    if kind == 0 {
-        return 0;
-    }
-    if 7 < number_of(list, i) {
-        return 15;
-    }
-    if kind == 1 {
-        return 0;
-    }
-    if last_set(list, i, number_of(list, i)) == i {
-        15
-    } else {
-        0
+// 14 for no kind; 15 for a mark above 7, or a return to one not set.
+fn fault(before: &[[u8; 2]], last: [u8; 2]) -> Option<u8> {
+    match Record::read(last) {
+        None => Some(14),
+        Some(Record::Step(_)) => None,
+        Some(Record::Mark(mark)) if mark < 8 => None,
+        Some(Record::Return(mark)) if mark < 8 && last_set(before, mark).is_some() => None,
+        Some(_) => Some(15),
     }
 }
 
-// Has a record been refused?
-pub fn is_refused(w: Work) -> bool {
-    if w.stage < 9 {
-        return false;
-    }
-    w.stage < 100
-}
-
-fn refused(w: Work, number: u32) -> Work {
-    let mut next = w;
-    next.stage = number;
+fn refused(work: &Work, number: u8) -> Work {
+    let mut next = *work;
+    next.stage = Stage::Refused(number);
     next
 }
 
 // The working after a list, where w is the working before its last record. After a refused record nothing is met.
-pub fn after(fresh: Work, w: Work, list: Choices) -> Work {
-    let count = list.len / 2 % 33;
-    if is_refused(w) {
-        return w;
+pub fn after(fresh: &Work, w: &Work, list: &Choices) -> Work {
+    if w.is_refused() {
+        return *w;
     }
-    if count == 0 {
-        return w;
-    }
-    let number = fault(list, count - 1);
-    if number != 0 {
+    let (records, _) = list.as_chunks::<2>();
+    let Some((last, before)) = records.split_last() else {
+        return *w;
+    };
+    if let Some(number) = fault(before, *last) {
         return refused(w, number);
     }
-    replayed(fresh, standing(list, count))
+    let mut next = *fresh;
+    for joint in standing(records).iter().rev() {
+        next.choose(*joint);
+    }
+    next
 }
 
 // An odd number of bytes is refused before any record is met.
-pub fn odd(fresh: Work) -> Work {
+pub fn odd(fresh: &Work) -> Work {
     refused(fresh, 14)
 }

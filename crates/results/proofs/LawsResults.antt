@@ -1,14 +1,26 @@
 -- An entry's bytes, and those of the shortened lists.
-use mathlib.Core.Path.{◌≡◌}
+use mathlib.Core.Path.{◌≡◌, refl, sym, ap, ◌∙◌}
 use mathlib.Core.List.{List, [], ◌∷◌, ◌++◌}
-use Prim.Native.Nat.{ℕ, ◌+◌, ◌*◌, ◌/◌, ◌%◌, ◌≤◌}
+use Prim.Native.Nat.{ℕ, zero, suc, ◌+◌, ◌*◌, ◌/◌, ◌%◌, ◌≤◌, ◌<◌}
+use native.Mathlib.Nat.{mul-le-mul}
 use native.Mathlib.Omega.{arith}
-use lib.ListN.{length, get_or, drop}
+use native.Mathlib.Numerals.{add-one}
+use lib.ListN.{length, get_or, take, drop}
+use borrow.Author.Tests.{eq-eqb, ne_eqb, lt-ltb, le-ltb, ltb-true}
+use Rattle.std.specs.Prelude.{Option, Some, None}
+use Rattle.std.specs.Option.{unwrap_or}
+use Rattle.std.specs.List.{sum_by}
+use Rattle.std.proofs.lemmas.List.Sums.{sum_by_more}
+use Rattle.base.specs.Below.{lowest, first_below, sum_below}
+use Rattle.base.proofs.Cases.{case, lt_ge}
+use Rattle.base.proofs.Lowest.{some_passes, lowest_passes}
+use Rattle.roommates.proofs.Rows.{some_listed, listed_some}
 use Rattle.base.proofs.Tests.{listed, unlisted}
-use Rattle.roommates.specs.Lists.{Square}
+use Rattle.roommates.specs.Lists.{Square, row, is_listed, list_length}
 use Rattle.writing.specs.Written.{Wrote}
 use Rattle.writing.proofs.Writings.{front_wrote}
-use Rattle.roommates.specs.Left.{entry, entries, entry_count, list_bytes}
+use Rattle.roommates.specs.Left.{partner_on, entry, entries, entry_count, list_bytes}
+use Rattle.roommates.proofs.EntryCounts.{entries_bound}
 use Rattle.roommates.proofs.EntriesWritten.{bytes_length}
 
 module _ (a : ℕ) (l : List ℕ) (b : ℕ) where
@@ -19,6 +31,47 @@ module _ (a : ℕ) (l : List ℕ) (b : ℕ) where
   pub entry_some : (get_or l b 0 ≡ 0 → ⊥) → entry a l b ≡ a ∷ (b ∷ (get_or l b 0 ∷ []))
   unfolding entry
   entry_some h = rw (listed (get_or l b 0) h)
+
+-- the lowest joint on a list, as a search finds it
+module _ (n : ℕ) (l : List ℕ) {r : Option ℕ} (found : r ≡ first_below n (is_listed l)) where
+  first_some : (lowest n (is_listed l) < n) → r ≡ Some (lowest n (is_listed l))
+  first_some h = rw (lt-ltb (lowest n (is_listed l)) n h) at found
+
+  first_none : (n ≤ lowest n (is_listed l)) → r ≡ None
+  first_none h = rw (le-ltb (lowest n (is_listed l)) n h) at found
+
+  pub partner_none : r ≡ None → 255 ≡ partner_on n l
+  unfolding partner_on
+  partner_none e =
+      case (lt_ge (lowest n (is_listed l)) n)
+      (λ h. let both = ap (λ (o : Option ℕ). unwrap_or o n) (sym e ∙ first_some h) in absurd (omega arith))
+      (λ h. case (lt_ge 0 (list_length n l))
+      (λ some. let j = some_listed n l some in absurd (omega (arith, some_passes n (is_listed l) j.0 j.1 (lt-ltb 0 (get_or l j.0 0) j.2))))
+      (λ none. rw (eq-eqb (list_length n l) 0 (omega arith)) refl))
+
+  pub partner_some : {b : ℕ} → r ≡ Some b → (b < n) × (b ≡ partner_on n l)
+  unfolding partner_on
+  partner_some {b} e =
+      case (lt_ge (lowest n (is_listed l)) n)
+      (λ h. let both : b ≡ lowest n (is_listed l) = ap (λ (o : Option ℕ). unwrap_or o n) (sym e ∙ first_some h) in
+      let listed = listed_some n l (lowest n (is_listed l)) h (ltb-true 0 (get_or l (lowest n (is_listed l)) 0) (lowest_passes n (is_listed l) h)) in
+      (omega arith, rw (ne_eqb (list_length n l) 0 (λ z. omega arith)) both))
+      (λ h. let both = ap (λ (o : Option ℕ). unwrap_or o (suc b)) (sym e ∙ first_none h) in absurd (omega arith))
+
+-- a sum over the first m rows
+pub sum_taken : (m : ℕ) (f : List ℕ → ℕ) (t : Square) → m ≤ length t → sum_by f (take m t) ≡ sum_below m (λ a. f (row t a))
+unfolding sum_below
+sum_taken zero f t h = refl
+sum_taken (suc m) f t h =
+    let more : sum_by f (take (suc m) t) ≡ sum_by f (take m t) + f (row t m) = rw add-one at (sum_by_more f t m [] (omega arith)) in
+    more ∙ ap (λ (s : ℕ). s + f (row t m)) (sum_taken m f t (omega arith))
+
+-- a count of entries is small, and its two bytes are the number
+pub count_small : (n : ℕ) (t : Square) {k : ℕ} → n ≤ 128 → k ≡ entry_count n t → k ≤ 16384
+count_small n t few e = omega (arith, entries_bound n t, mul-le-mul few few)
+
+pub count_bytes : (k : ℕ) {b : List ℕ} → k ≤ 16384 → b ≡ (k % 256) ∷ (((k / 256) % 256) ∷ []) → b ≡ (k % 256) ∷ ((k / 256) ∷ [])
+count_bytes k h e = let low : k / 256 % 256 ≡ k / 256 = omega arith in rw low at e
 
 module _ (n : ℕ) (t : Square) where
   bytes_wrote : {k r : ℕ} {o out : List ℕ} → k ≡ entry_count n t → Wrote o 0 ((k % 256) ∷ ((k / 256) ∷ entries n t)) out r → Wrote o 0 (list_bytes n t) out r

@@ -2,7 +2,7 @@
 #![tactic(auto)]
 
 // Phase one; phase two; or ended, with its verdict: none in phase one, none in phase two, or a pairing (for shorten: lists).
-#[derive(Clone, Copy)]
+#[derive(Clone, Copy, PartialEq, Eq)]
 pub enum Stage {
     Proposing,
     Cutting,

@@ -1,265 +1,253 @@
-// The two phases for up to 8 joints, sentence by sentence from documents 01 and 02, for the test programs.
+// The two phases for up to 8 joints, sentence by sentence from documents 01 and 02, for the test programs. Refusals are the numbers that
+// those documents give, and not the library's names, so that a wrong number there is seen.
 #![tactic(auto)]
 
-mod flags;
+mod joints;
 mod phases;
 
-ghost use Rattle.std.specs.Prelude.{◌<◌};
+ghost use Rattle.std.specs.Prelude.{◌<◌, IfSome};
 
-use flags::{fullest, has, highest, lowest, row, rows, with};
-use phases::{cut, step, waiting};
+use arrayvec::ArrayVec;
+pub use joints::any_of;
+use joints::{Set, Table, fullest, has, lowest, rows};
+use samples::{Bands, filled, put};
 
-// Where a working stands: in a phase; at the number of a refused choice, below 100; or at its end.
-const PHASE_ONE: u32 = 1;
+// Which call a working is of.
+#[derive(Clone, Copy, PartialEq, Eq)]
+pub enum Call {
+    Settle,
+    Shorten,
+}
 
-const PHASE_TWO: u32 = 2;
+#[derive(Clone, Copy, PartialEq, Eq)]
+pub enum Phase {
+    One,
+    Two,
+}
 
-pub const NONE_ONE: u32 = 101;
+#[derive(Clone, Copy, PartialEq, Eq)]
+pub enum End {
+    None(Phase),
+    Paired,
+    Lists,
+}
 
-pub const NONE_TWO: u32 = 102;
+// Where a working stands: in a phase, at its end, or at a refused choice.
+#[derive(Clone, Copy, PartialEq, Eq)]
+pub enum Stage {
+    In(Phase),
+    Ended(End),
+    Refused(u8),
+}
 
-pub const PAIRED: u32 = 200;
-
-pub const LISTS: u32 = 1000;
-
-// What buffers are filled with.
-pub const FILL: u8 = 170;
-
-// A working: settle's if `whole`, else shorten's.
 #[derive(Clone, Copy)]
 pub struct Work {
-    pub whole: bool,
-    // The count of joints and the sheet's bands: row by row, 8 to a joint, 0 for unlisted.
+    pub call: Call,
+    // The count of joints and the sheet's bands.
     pub n: usize,
-    pub bands: [u8; 64],
-    // Tables: b is on a's list; p's proposal stands at q.
-    pub listed: u64,
-    pub stands: u64,
-    // Sets: the joints that ever received a proposal, and those set aside.
-    pub received: u64,
-    pub aside: u64,
-    pub stage: u32,
+    pub bands: Bands,
+    // b is on a's list; p's proposal stands at q.
+    listed: Table,
+    stands: Table,
+    // The joints that ever received a proposal, and those set aside.
+    received: Set,
+    aside: Set,
+    pub stage: Stage,
     pub proposals: u32,
     pub cuts: u32,
 }
 
-// What a call answers, as one number: that of a refusal; 101 or 102 for none with its phase; 200 and the count of pairs; 1000 and the
-// count of entries. The buffer after it; and its working's counts, beside the number of a refused choice, or 0.
+// What a call answers that is not refused: none with its phase, the count of pairs, the count of entries.
+#[derive(Clone, Copy, PartialEq, Eq)]
+pub enum Said {
+    None(Phase),
+    Paired(u32),
+    Lists(u32),
+}
+
+// A working's counts, beside the number of a refused choice.
+#[derive(Clone, Copy, PartialEq, Eq)]
+pub struct Counts {
+    pub refused: Option<u8>,
+    pub proposals: u32,
+    pub cuts: u32,
+}
+
+// What a call answers, or the number of a refusal; the buffer after it; and its working's counts.
 #[derive(Clone, Copy)]
 pub struct Answer {
-    pub number: u32,
+    pub said: Result<Said, u8>,
     pub out: [u8; 256],
-    pub refusal: u32,
-    pub proposals: u32,
-    pub cuts: u32,
+    pub counts: Counts,
 }
 
-// The joints that the next choice may name: one that waits, or one with a list longer than one.
-pub fn allowed(w: Work) -> u64 {
-    let stage = w.stage;
-    match stage {
-        PHASE_ONE => waiting(w),
-        PHASE_TWO => rows(w.listed, 2),
-        _ => 0,
-    }
-}
-
-// A joint of a set: the first from x on, in a ring.
-pub fn any_of(set: u64, x: u32) -> u8 {
-    let from = x % 8;
-    ((u64::trailing_zeros((set | (set << 8)) >> from) % 8 + from) % 8) as u8
-}
-
-// A phase ends when nobody is allowed. A joint that ever received a proposal and has an empty list then gives none in phase one. Joints
-// empty without one are set aside, and with them those that the sheet has not. Shorten ends with phase one.
-fn closed(w: Work) -> Work {
-    let mut next = w;
-    let empty = 255 & !rows(w.listed, 1);
-    if allowed(w) != 0 {
-        return next;
-    }
-    if w.stage == PHASE_TWO {
-        next.stage = PAIRED;
-    }
-    if w.stage == PHASE_ONE {
-        next.aside = empty;
-        next.stage = if w.received & empty != 0 {
-            NONE_ONE
-        } else if w.whole {
-            PHASE_TWO
-        } else {
-            LISTS
-        };
-    }
-    next
-}
-
-// Have both joints of the pair at place k a band for the other? An entry without its return is struck before phase one.
-fn is_listed(bands: &[u8; 64], k: usize) -> bool
-    requires { k < 64 }
-{
-    if bands[k] == 0 {
-        return false;
-    }
-    bands[k % 8 * 8 + k / 8] != 0
-}
-
-// The pairs that are listed.
-fn listed_of(bands: [u8; 64]) -> u64 {
-    let mut table = 0;
-    let mut k = 0;
-    while k < 64 {
-        table = with(table, k / 8, k % 8, is_listed(&bands, k));
-        k += 1;
+// The pairs that are listed: both joints have a band for the other. An entry without its return is struck before phase one.
+fn listed_of(bands: &Bands) -> Table {
+    let mut table = [0; 8];
+    for a in 0..8 {
+        for b in 0..8 {
+            if bands[a][b] != 0 && bands[b][a] != 0 {
+                table[a] |= 1 << b;
+            }
+        }
     }
     table
 }
 
-// A fresh working. Either phase may have nothing to do.
-pub fn fresh(n: usize, bands: [u8; 64], whole: bool) -> Work {
-    closed(closed(Work {
-        whole: whole,
-        n: n,
-        bands: bands,
-        listed: listed_of(bands),
-        stands: 0,
-        received: 0,
-        aside: 0,
-        stage: PHASE_ONE,
-        proposals: 0,
-        cuts: 0,
-    }))
-}
-
-// x, which is allowed, proposes or is cut. Phase two may have nothing to do.
-fn moved(w: Work, x: usize) -> Work {
-    if w.stage == PHASE_ONE {
-        return closed(closed(step(w, x)));
+impl Work {
+    // A fresh working. Either phase may have nothing to do.
+    pub fn fresh(call: Call, n: usize, bands: Bands) -> Work {
+        let mut fresh = Work {
+            call,
+            n,
+            bands,
+            listed: listed_of(&bands),
+            stands: [0; 8],
+            received: 0,
+            aside: 0,
+            stage: Stage::In(Phase::One),
+            proposals: 0,
+            cuts: 0,
+        };
+        fresh.close();
+        fresh.close();
+        fresh
     }
-    closed(cut(w, x))
-}
 
-// One choice. It is refused if it is not allowed, and not met after a refused one.
-pub fn chosen(w: Work, c: u8) -> Work {
-    let mut next = w;
-    let stage = w.stage;
-    if c < 8 {
-        if has(allowed(w), 0, c as usize) {
-            return moved(w, c as usize);
+    // The joints that the next choice may name: one that waits, or one with a list longer than one.
+    pub fn allowed(&self) -> Set {
+        match self.stage {
+            Stage::In(Phase::One) => self.waiting(),
+            Stage::In(Phase::Two) => rows(&self.listed, 2),
+            _ => 0,
         }
     }
-    next.stage = match stage {
-        PHASE_ONE => 11,
-        PHASE_TWO => 12,
-        11 | 12 => stage,
-        _ => 13,
-    };
-    next
-}
 
-// When choices run out in phase two, the joint with the longest remaining list is cut, and among equals the highest number. In phase one
-// the lowest joint that waits proposes.
-fn ruled(w: Work) -> usize {
-    if w.stage == PHASE_TWO {
-        return highest(fullest(w.listed));
-    }
-    lowest(waiting(w))
-}
-
-// Where choices have run out, the joint that the rule names is taken every time. There are at most 56 steps and 28 cuts.
-pub fn ended(w: Work) -> Work {
-    let mut next = w;
-    let mut i: u32 = 0;
-    while i < 84 {
-        if allowed(next) == 0 {
-            return next;
+    // A phase ends when nobody is allowed. A joint that ever received a proposal and has an empty list then gives none in phase one.
+    // Joints empty without one are set aside, and with them those that the sheet has not. Shorten ends with phase one.
+    fn close(&mut self) {
+        if self.allowed() != 0 {
+            return;
         }
-        next = moved(next, ruled(next));
-        i += 1;
-    }
-    next
-}
-
-// a's partner, 255 for unpaired.
-fn partner(w: Work, a: usize) -> u8 {
-    let list = row(w.listed, a);
-    if list == 0 { 255 } else { lowest(list) as u8 }
-}
-
-// The partner bytes of 8 joints.
-pub fn partners(w: Work) -> [u8; 8] {
-    [
-        partner(w, 0),
-        partner(w, 1),
-        partner(w, 2),
-        partner(w, 3),
-        partner(w, 4),
-        partner(w, 5),
-        partner(w, 6),
-        partner(w, 7),
-    ]
-}
-
-// Settle writes n bytes: each joint's partner.
-fn settled(w: Work) -> [u8; 256] {
-    let n = w.n;
-    let mut out = [FILL; 256];
-    let mut a = 0;
-    while a < 8 {
-        if a < n {
-            out[a] = partner(w, a);
+        match self.stage {
+            Stage::In(Phase::One) => {
+                self.aside = !rows(&self.listed, 1);
+                self.stage = if self.received & self.aside != 0 {
+                    Stage::Ended(End::None(Phase::One))
+                } else if self.call == Call::Settle {
+                    Stage::In(Phase::Two)
+                } else {
+                    Stage::Ended(End::Lists)
+                };
+            }
+            Stage::In(Phase::Two) => self.stage = Stage::Ended(End::Paired),
+            _ => {}
         }
-        a += 1;
     }
-    out
-}
 
-// Shorten writes the remaining entries in sheet form, count first, bands as in the sheet.
-fn shortened(w: Work) -> [u8; 256] {
-    let mut out = [FILL; 256];
-    out[0] = (u64::count_ones(w.listed) % 256) as u8;
-    out[1] = 0;
-    let mut at = 2;
-    let mut k = 0;
-    while k < 64 {
-        if has(w.listed, k / 8, k % 8) {
-            out[at] = (k / 8) as u8;
-            out[at + 1] = (k % 8) as u8;
-            out[at + 2] = w.bands[k];
-            at += 3;
+    // x, which is allowed, proposes or is cut. Phase two may have nothing to do.
+    fn take(&mut self, x: usize)
+        requires { x < 8 }
+    {
+        if self.stage == Stage::In(Phase::One) {
+            self.step(x);
+            self.close();
+        } else {
+            self.cut(x);
         }
-        k += 1;
+        self.close();
     }
-    out
-}
 
-// What a call writes whose working ended so. None and refusals write nothing.
-fn buffer(w: Work) -> [u8; 256] {
-    let stage = w.stage;
-    match stage {
-        PAIRED => settled(w),
-        LISTS => shortened(w),
-        _ => [FILL; 256],
+    // One choice. It is refused if it is not allowed, and not met after a refused one.
+    pub fn choose(&mut self, choice: u8) {
+        let x = usize::from(choice);
+        if x < 8 && has(self.allowed(), x) {
+            self.take(x);
+            return;
+        }
+        self.stage = match self.stage {
+            Stage::In(Phase::One) => Stage::Refused(11),
+            Stage::In(Phase::Two) => Stage::Refused(12),
+            Stage::Ended(_) => Stage::Refused(13),
+            Stage::Refused(number) => Stage::Refused(number),
+        };
     }
-}
 
-// What it answers, as a number.
-fn number(w: Work) -> u32 {
-    let entries = u64::count_ones(w.listed) % 65;
-    let stage = w.stage;
-    match stage {
-        PAIRED => PAIRED + entries / 2,
-        LISTS => LISTS + entries,
-        _ => stage,
+    // When choices run out in phase two, the joint with the longest remaining list is cut, and among equals the highest number. In phase
+    // one the lowest joint that waits proposes.
+    fn ruled(&self) -> Option<usize>
+        ensures { IfSome result (λ x. x < 8) }
+    {
+        if self.stage == Stage::In(Phase::Two) && self.allowed() != 0 {
+            return fullest(&self.listed);
+        }
+        lowest(self.allowed())
     }
-}
 
-pub fn answered(w: Work) -> Answer {
-    Answer {
-        number: number(w),
-        out: buffer(w),
-        refusal: if w.stage < 100 { w.stage } else { 0 },
-        proposals: w.proposals,
-        cuts: w.cuts,
+    // Where choices have run out, the joint that the rule names is taken every time. There are at most 56 steps and 28 cuts.
+    pub fn ended(mut self) -> Work {
+        for _ in 0..84 {
+            let Some(x) = self.ruled() else {
+                break;
+            };
+            self.take(x);
+        }
+        self
+    }
+
+    pub fn is_refused(&self) -> bool {
+        matches!(self.stage, Stage::Refused(_))
+    }
+
+    // The partner bytes of 8 joints, 255 for unpaired.
+    pub fn partners(&self) -> [u8; 8] {
+        self.listed
+            .map(|list| lowest(list).map_or(255, |b| (b % 8) as u8))
+    }
+
+    // Settle writes n bytes: each joint's partner.
+    fn settled(&self) -> [u8; 256] {
+        filled(&self.partners()[..self.n.min(8)])
+    }
+
+    // How many entries remain.
+    fn count(&self) -> u32 {
+        self.listed
+            .iter()
+            .fold(0, |sum, list| sum % 65 + list.count_ones())
+    }
+
+    // Shorten writes the remaining entries in sheet form, count first, bands as in the sheet.
+    fn shortened(&self) -> [u8; 256] {
+        let mut out: ArrayVec<u8, 194> = ArrayVec::new();
+        put(&mut out, &[(self.count() % 256) as u8, 0]);
+        for a in 0..8 {
+            for b in 0..8 {
+                if has(self.listed[a], b) {
+                    put(&mut out, &[a as u8, b as u8, self.bands[a][b]]);
+                }
+            }
+        }
+        filled(&out)
+    }
+
+    // None and refusals write nothing. A working that has not ended is none that a call answers for.
+    pub fn answered(&self) -> Answer {
+        let (said, out, refused) = match self.stage {
+            Stage::Ended(End::Paired) => (Ok(Said::Paired(self.count() / 2)), self.settled(), None),
+            Stage::Ended(End::Lists) => (Ok(Said::Lists(self.count())), self.shortened(), None),
+            Stage::Ended(End::None(phase)) => (Ok(Said::None(phase)), filled(&[]), None),
+            Stage::In(_) => (Err(0), filled(&[]), None),
+            Stage::Refused(number) => (Err(number), filled(&[]), Some(number)),
+        };
+        Answer {
+            said,
+            out,
+            counts: Counts {
+                refused,
+                proposals: self.proposals,
+                cuts: self.cuts,
+            },
+        }
     }
 }

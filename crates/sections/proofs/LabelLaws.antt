@@ -1,39 +1,43 @@
--- Laws of the labels' definitions, in the steps of the loops that compute them.
-use mathlib.Core.Path.{◌≡◌, refl, sym}
+-- Laws of the labels' definitions, for the chains that compute them.
+use mathlib.Core.Path.{◌≡◌, refl, sym, ap, ◌∙◌}
 use mathlib.Core.Bool.{Bool, true, false, ◌&&◌}
 use mathlib.Core.List.{List, [], ◌∷◌}
-use Prim.Native.Nat.{ℕ, suc, ◌+◌, ◌≤◌, ◌<◌}
-use native.Mathlib.Numerals.{add-one}
+use mathlib.Core.Logic.{◌≢◌}
+use Prim.Native.Nat.{ℕ, zero, suc, ◌≤◌, ◌<◌}
 use native.Mathlib.Omega.{arith}
 use lib.Dec.{eqb}
-use lib.ListN.{length, get_or, drop, drop_of_length-le}
-use lib.Seq.{drop-cons}
-use borrow.Author.Tests.{eq-eqb, ne_eqb, eqb-true}
+use lib.ListN.{length, get_or}
+use borrow.Author.Tests.{eq-eqb, eqb-true}
+use Rattle.base.proofs.Cases.{case, both_ways}
+use Rattle.base.proofs.Tests.{not_so, and_true}
 use Rattle.sections.specs.Labels.{visible, visible_run, all_zero, same_bytes}
 
-pub run_more : (l : List ℕ) (i : ℕ) → i < length l → visible (get_or l i 0) ≡ true → visible_run (drop i l) ≡ suc (visible_run (drop (i + 1) l))
+-- the run of a label: up to the first byte that is not visible
+pub run_told : (l : List ℕ) (k : ℕ) → k ≤ length l → ((i : ℕ) → i < k → visible (get_or l i 0) ≡ true) → (k < length l → visible (get_or l k 0) ≡ false)
+    → visible_run l ≡ k
 unfolding visible_run
-run_more l i h e = rw (add-one, drop-cons l i 0, e)
+run_told [] k w seen stop = omega arith
+run_told (b ∷ l) zero w seen stop = rw (stop (omega arith))
+run_told (b ∷ l) (suc k) w seen stop =
+    rw (seen 0 (omega arith)) (ap suc (run_told l k (omega arith) (λ i h. seen (suc i) (omega arith)) (λ h. stop (omega arith))))
 
-pub run_stop : (l : List ℕ) (i : ℕ) → i < length l → visible (get_or l i 0) ≡ false → visible_run (drop i l) ≡ 0
-unfolding visible_run
-run_stop l i h e = rw (drop-cons l i 0, e)
-
-pub run_end : (l : List ℕ) (i : ℕ) → length l ≤ i → visible_run (drop i l) ≡ 0
-unfolding visible_run
-run_end l i h = rw (drop_of_length-le l h)
-
-pub zero_more : (l : List ℕ) (i : ℕ) → i < length l → get_or l i 0 ≡ 0 → all_zero (drop i l) ≡ all_zero (drop (i + 1) l)
+-- all bytes are zero, or one is not
+pub zero_at : (l : List ℕ) → all_zero l ≡ true → (i : ℕ) → get_or l i 0 ≡ 0
 unfolding all_zero
-zero_more l i h e = rw (add-one, drop-cons l i 0, eq-eqb _ _ e)
+zero_at [] h i = refl
+zero_at (b ∷ l) h zero = eqb-true b 0 (and_true (eqb b 0) (all_zero l) h).0
+zero_at (b ∷ l) h (suc i) = zero_at l (and_true (eqb b 0) (all_zero l) h).1 i
 
-pub zero_stop : (l : List ℕ) (i : ℕ) → i < length l → (get_or l i 0 ≡ 0 → ⊥) → all_zero (drop i l) ≡ false
+pub at_zero : (l : List ℕ) → ((i : ℕ) → i < length l → get_or l i 0 ≡ 0) → all_zero l ≡ true
 unfolding all_zero
-zero_stop l i h e = rw (drop-cons l i 0, ne_eqb _ _ e)
+at_zero [] h = refl
+at_zero (b ∷ l) h = rw (eq-eqb b 0 (h 0 (omega arith))) (at_zero l (λ i g. h (suc i) (omega arith)))
 
-pub zero_end : (l : List ℕ) (i : ℕ) → length l ≤ i → all_zero (drop i l) ≡ true
-unfolding all_zero
-zero_end l i h = rw (drop_of_length-le l h)
+pub zero_told : (l : List ℕ) (r : Bool) → (r ≡ true → (i : ℕ) → i < length l → get_or l i 0 ≡ 0) → (r ≡ false → (i : ℕ) × (get_or l i 0 ≢ 0)) → r ≡ all_zero l
+zero_told l r zeros other =
+    case (both_ways r)
+    (λ t. t ∙ sym (at_zero l (zeros t)))
+    (λ f. f ∙ sym (not_so (all_zero l) (λ t. let o : (i : ℕ) × (get_or l i 0 ≢ 0) = other f in o.1 (zero_at l t o.0))))
 
 -- the test of two labels holds exactly for equal ones
 pub same_true : (a b : List ℕ) → a ≡ b → same_bytes a b ≡ true

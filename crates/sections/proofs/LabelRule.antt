@@ -1,14 +1,14 @@
 -- The tests of labels mean document 01's rule.
-use mathlib.Core.Path.{◌≡◌, refl, sym, ap, ◌∙◌}
+use mathlib.Core.Path.{◌≡◌, sym, ap, ◌∙◌}
 use mathlib.Core.Bool.{true, false, not}
 use mathlib.Core.List.{List, [], ◌∷◌}
 use mathlib.Core.Logic.{◌≢◌}
 use Prim.Native.Nat.{ℕ, zero, suc, ◌+◌, ◌-◌, ◌*◌, ◌≤◌, ◌<◌}
 use native.Mathlib.Omega.{arith}
-use lib.Dec.{leb, eqb}
+use lib.Dec.{leb}
 use lib.ListN.{length, get_or, drop, length-drop}
 use lib.Seq.{get_or-drop}
-use borrow.Author.Tests.{leb-true, le-leb, lt-leb, ltb-false, le-ltb, eqb-true, eq-eqb, not-false}
+use borrow.Author.Tests.{leb-true, le-leb, lt-leb, ltb-false, le-ltb, not-false}
 use Rattle.base.specs.Below.{any_below}
 use Rattle.base.specs.Faults.{first_fault}
 use Rattle.base.proofs.Cases.{case, both_ways}
@@ -17,7 +17,7 @@ use Rattle.base.proofs.AnyBelow.{any_none, none_any}
 use Rattle.base.proofs.Faults.{first_none, when_none}
 use Rattle.sections.specs.Labels.{label_width, label_in, visible, visible_run, all_zero, label_ok, repeats, label_bad, labels_fault}
 use Rattle.sections.specs.Claims.{Label, LabelRule, GoodLabels, LabelsRule}
-use Rattle.sections.proofs.LabelLaws.{same_true, same_equal}
+use Rattle.sections.proofs.LabelLaws.{run_told, zero_at, at_zero, same_true, same_equal}
 
 -- A BYTE
 pub visible_range : (b : ℕ) → visible b ≡ true → (33 ≤ b) × (b ≤ 126)
@@ -47,23 +47,7 @@ run_within (b ∷ l) = let h = run_within l in case (both_ways (visible b)) (λ 
 -- a run of seen bytes before zeros is the run
 pub run_is : (l : List ℕ) (k : ℕ) → k ≤ length l → ((i : ℕ) → i < k → visible (get_or l i 0) ≡ true) → ((i : ℕ) → k ≤ i → i < length l → get_or l i 0 ≡ 0)
     → visible_run l ≡ k
-unfolding visible_run
-run_is [] k w seen zeros = omega arith
-run_is (b ∷ l) zero w seen zeros = rw (zero_unseen b (zeros 0 (omega arith) (omega arith)))
-run_is (b ∷ l) (suc k) w seen zeros =
-    rw (seen 0 (omega arith))
-    (ap suc (run_is l k (omega arith) (λ i h. seen (suc i) (omega arith)) (λ i h g. zeros (suc i) (omega arith) (omega arith))))
-
-zero_at : (l : List ℕ) → all_zero l ≡ true → (i : ℕ) → get_or l i 0 ≡ 0
-unfolding all_zero
-zero_at [] h i = refl
-zero_at (b ∷ l) h zero = eqb-true b 0 (and_true (eqb b 0) (all_zero l) h).0
-zero_at (b ∷ l) h (suc i) = zero_at l (and_true (eqb b 0) (all_zero l) h).1 i
-
-at_zero : (l : List ℕ) → ((i : ℕ) → i < length l → get_or l i 0 ≡ 0) → all_zero l ≡ true
-unfolding all_zero
-at_zero [] h = refl
-at_zero (b ∷ l) h = rw (eq-eqb b 0 (h 0 (omega arith))) (at_zero l (λ i g. h (suc i) (omega arith)))
+run_is l k w seen zeros = run_told l k w seen (λ h. zero_unseen _ (zeros k (omega arith) h))
 
 -- A LABEL
 label_is : (l : List ℕ) → label_ok l ≡ true → Label l

@@ -1,7 +1,6 @@
 -- Laws of the sections' definitions, and what sections without a fault promise.
 pub mod LabelLaws
 pub mod LabelRule
-pub mod SectionLaws
 pub mod Numbers
 pub mod EntryFaults
 pub mod Ranks

@@ -1,5 +1,4 @@
--- The sections of a sheet: labels, entries, what is wrong with them, and what is read.
+-- The sections of a sheet: labels and entries, and what is wrong with them.
 pub mod Labels
 pub mod Entries
-pub mod Readings
 pub mod Claims

@@ -1,15 +1,16 @@
 // The labels' section.
 ghost use Rattle.std.specs.Prelude.{◌≡◌, ◌+◌, ◌*◌, ◌<◌, ◌≤◌, length, drop};
 ghost use Rattle.base.specs.Below.{any_below};
-ghost use Rattle.sections.specs.Labels.{label_width, label_at, visible, visible_run, all_zero, label_ok, repeats, label_bad};
-ghost use Rattle.sections.specs.Readings.{labels_reading};
+ghost use Rattle.refusals.specs.Numbers.{answered};
+ghost use Rattle.sections.specs.Labels.{label_width, label_at, visible, visible_run, all_zero, label_ok, repeats, label_bad, labels_fault};
 
-use crate::{LABEL_WIDTH, Section};
+use crate::{Joints, LABEL_WIDTH};
+use refusals::Refusal;
 
 fn is_visible(b: u8) -> bool
     ensures { result ≡ visible b }
 {
-    if 33 <= b { b <= 126 } else { false }
+    33 <= b && b <= 126
 }
 
 // How many visible bytes a label begins with.
@@ -17,41 +18,23 @@ pub fn visible_run(label: &[u8]) -> usize
     ensures value { result ≡ visible_run label.now }
     ensures upper_bound { result ≤ length label.now }
 {
-    let mut i = 0;
-    while i < label.len() {
-        let seen = is_visible(label[i]);
-        if !seen {
-            return i;
-        }
-        i += 1;
-    }
-    i
+    label
+        .iter()
+        .position(|b| !is_visible(*b))
+        .unwrap_or(label.len())
 }
 
-// Are all bytes from `start` on zero?
-fn zero_from(label: &[u8], start: usize) -> bool
-    requires { start ≤ length label.now }
-    ensures { result ≡ all_zero (drop start label.now) }
+fn is_zero(bytes: &[u8]) -> bool
+    ensures { result ≡ all_zero bytes.now }
 {
-    let mut i = start;
-    while i < label.len() {
-        if label[i] != 0 {
-            return false;
-        }
-        i += 1;
-    }
-    true
+    bytes.iter().all(|b| *b == 0)
 }
 
 fn label_ok(label: &[u8]) -> bool
     ensures { result ≡ label_ok label.now }
 {
     let run = visible_run(label);
-    if 1 <= run {
-        zero_from(label, run)
-    } else {
-        false
-    }
+    1 <= run && is_zero(&label[run..])
 }
 
 // Label i of a sheet, or of a part of it, whose labels begin at `labels`.
@@ -67,7 +50,7 @@ fn repeats_label(part: &[u8], i: usize, j: usize) -> bool
     requires { (i < 128) × ((label_width * i + label_width ≤ length part.now) × (j < i)) }
     ensures { result ≡ repeats part.now i j }
 {
-    check::same(label_at(part, 0, i), label_at(part, 0, j))
+    label_at(part, 0, i) == label_at(part, 0, j)
 }
 
 // Does label i repeat an earlier one?
@@ -75,52 +58,33 @@ fn repeats_any(part: &[u8], i: usize) -> bool
     requires { (i < 128) × (label_width * i + label_width ≤ length part.now) }
     ensures { result ≡ any_below i (repeats part.now i) }
 {
-    let mut j = 0;
-    while j < i {
-        let again = repeats_label(part, i, j);
-        if again {
-            return true;
-        }
-        j += 1;
-    }
-    false
+    (0..i).any(|j| repeats_label(part, i, j))
 }
 
 fn label_bad(part: &[u8], i: usize) -> bool
     requires { (i < 128) × (label_width * i + label_width ≤ length part.now) }
     ensures { result ≡ label_bad part.now i }
 {
-    let ok = label_ok(label_at(part, 0, i));
-    if ok { repeats_any(part, i) } else { true }
+    !label_ok(label_at(part, 0, i)) || repeats_any(part, i)
 }
 
-fn some_label_bad(part: &[u8], n: usize) -> bool
-    requires { (n ≤ 128) × (label_width * n ≤ length part.now) }
-    ensures { result ≡ any_below n (label_bad part.now) }
+fn some_label_bad(part: &[u8], n: Joints) -> bool
+    requires { label_width * n.count ≤ length part.now }
+    ensures { result ≡ any_below n.count (label_bad part.now) }
 {
-    let mut i = 0;
-    while i < n {
-        let bad = label_bad(part, i);
-        if bad {
-            return true;
-        }
-        i += 1;
-    }
-    false
+    (0..n.count).any(|i| label_bad(part, i))
 }
 
-// Reads the n labels that the part begins with.
-pub fn read_labels(part: &[u8], n: usize) -> Section
-    requires { n ≤ 128 }
-    ensures { result ≡ labels_reading n part.now }
+// Reads the n labels that the part begins with: their length in bytes.
+pub fn read_labels(part: &[u8], n: Joints) -> Result<usize, Refusal>
+    ensures { result ≡ answered (labels_fault n.count part.now) (label_width * n.count) }
 {
-    let size = LABEL_WIDTH * n;
+    let size = LABEL_WIDTH * n.count;
     if part.len() < size {
-        return Section::Refused(1);
+        return Err(Refusal::SheetCutShort);
     }
-    let bad = some_label_bad(part, n);
-    if bad {
-        return Section::Refused(3);
+    if some_label_bad(part, n) {
+        return Err(Refusal::BadLabel);
     }
-    Section::Read(size)
+    Ok(size)
 }

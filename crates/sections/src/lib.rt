@@ -5,9 +5,6 @@ mod entry_section;
 mod joints;
 mod label_section;
 
-ghost use Rattle.std.specs.Prelude.{◌≡◌};
-ghost use Rattle.sections.specs.Readings.{number_of};
-
 pub use entry_section::{entry_in, read_entries};
 pub use joints::Joints;
 pub use label_section::{label_at, read_labels, visible_run};
@@ -17,27 +14,10 @@ pub const LABEL_WIDTH: usize = 16;
 
 pub const ENTRY_WIDTH: usize = 3;
 
-// What reading a section answers: its length in bytes, or the number of the refusal.
-#[derive(Clone, Copy)]
-pub enum Section {
-    Read(usize),
-    Refused(u8),
-}
-
 // An entry of the rankings: a joint, its candidate, the band.
 #[derive(Clone, Copy)]
 pub struct Entry {
     pub joint: usize,
     pub other: usize,
     pub band: u8,
-}
-
-// The number of a refused section, 0 for one that is read.
-pub fn number(found: Section) -> u8
-    ensures { result ≡ number_of found }
-{
-    match found {
-        Section::Read(_) => 0,
-        Section::Refused(number) => number,
-    }
 }

@@ -3,6 +3,6 @@ pub mod FaultLists
 pub mod Accepted
 pub mod SheetLaws
 pub mod PromiseKept
-pub mod ReadAs
 pub mod Numbers
+pub mod ReadAs
 pub mod Sizes

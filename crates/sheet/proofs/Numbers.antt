@@ -9,7 +9,8 @@ use lib.Dec.{eqb, ltb}
 use lib.ListN.{length, take, drop}
 use Rattle.base.specs.Faults.{when, first_fault}
 use Rattle.base.proofs.Cases.{case, eq_ne}
-use Rattle.base.proofs.Faults.{no_faults, last_fault, when_holds, when_most, first_holds, first_most, first_answered, none_answered, fault_behind}
+use Rattle.base.proofs.Faults.{no_faults, last_fault, when_holds, when_most, first_holds, first_most, none_answered, fault_behind}
+use Rattle.refusals.proofs.Numbers.{IsFault, is_fault}
 use Rattle.sections.proofs.Numbers.{labels_most, entries_most}
 use Rattle.parents.specs.Parents.{extent_fault, parents_fault}
 use Rattle.parents.specs.Claims.{IsSection}
@@ -17,11 +18,8 @@ use Rattle.parents.proofs.ThirdLaws.{extent_holds, parents_holds}
 use Rattle.parents.proofs.SectionRule.{section_rule}
 use Rattle.sheet.specs.Format.{joints, labels_part, rank_count, rank_start, rankings_part, rank_end, third}
 use Rattle.sheet.specs.Refusals.{sheet_faults, sheet_fault}
-use Rattle.sheet.specs.Claims.{RefusedFirst, AcceptedNone, OfSheet, SheetNumbers, ParentsRefused}
-use Rattle.sheet.specs.Readings.{parts_of}
+use Rattle.sheet.specs.Claims.{OfSheet, SheetNumbers, ParentsRefused}
 use Rattle.sheet.proofs.FaultLists.{split_faults}
-use Rattle.sheet.proofs.ReadAs.{read_as, read_refused}
-use Rattle.sheet.proofs.SheetLaws.{refused_as, accepted_as}
 
 -- none, or a number of a sheet's
 abbrev Number : ℕ → Type 0
@@ -60,19 +58,12 @@ number_not f known k low high e = case known (λ z. omega arith) (λ h. not_of_s
 pub sheet_not : (s : List ℕ) (k : ℕ) → 9 ≤ k → k ≤ 17 → sheet_fault s ≢ k
 sheet_not s = number_not (sheet_fault s) (sheet_numbers s)
 
-pub refused_first : RefusedFirst
-unfolding sheet_fault
-refused_first s k = (
-  λ h. (first_answered (sheet_faults s) k).0 (read_refused s k h),
-  λ f. let (e, l) = (first_answered (sheet_faults s) k).1 f in sym (refused_as s _ k e (λ z. omega arith)),
-)
-
-pub accepted_none : AcceptedNone
-unfolding sheet_fault
-accepted_none s = (
-  λ h. (none_answered (sheet_faults s)).0 (read_as s (parts_of s) h).faultless,
-  λ f. sym (accepted_as s refl refl refl refl ((none_answered (sheet_faults s)).1 f)),
-)
+-- each is a refusal's
+pub sheet_is_fault : (s : List ℕ) → IsFault (sheet_fault s)
+sheet_is_fault s =
+    case (sheet_numbers s) (λ z. is_fault _ (omega arith) (λ e. omega arith))
+    (λ o. case o (λ l. is_fault _ (omega arith) (λ e. omega arith))
+    (λ p. case p (λ e. is_fault _ (omega arith) (λ f. omega arith)) (λ e. is_fault _ (omega arith) (λ f. omega arith))))
 
 -- the seven that come before 18 are others
 early_most : (s : List ℕ) → first_fault (take 7 (sheet_faults s)) ≤ 8

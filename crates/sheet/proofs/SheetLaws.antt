@@ -1,7 +1,8 @@
 -- Laws of a whole sheet's reading, one for each way that the reader takes.
-use mathlib.Core.Path.{◌≡◌, refl, sym, ◌∙◌}
+use mathlib.Core.Path.{◌≡◌, ◌∙◌}
 use mathlib.Core.List.{List}
-use Prim.Native.Nat.{ℕ, zero, suc, ◌≤◌, ◌<◌}
+use Rattle.std.proofs.Common.{Ok}
+use Prim.Native.Nat.{ℕ, ◌≤◌, ◌<◌}
 use lib.ListN.{length, take, drop}
 use borrow.Author.Tests.{eq-eqb, ne_eqb, lt-ltb, le-ltb}
 use Rattle.base.specs.Faults.{first_fault}
@@ -9,22 +10,17 @@ use Rattle.base.proofs.Faults.{fault_stops, fault_passes, last_fault}
 use Rattle.sections.specs.Labels.{labels_fault}
 use Rattle.sections.specs.Entries.{entries_fault}
 use Rattle.parents.specs.Parents.{extent_fault, parents_fault}
-use Rattle.sheet.specs.declared.Reading.TheVariants.{Accepted, Refused}
+use Rattle.refusals.specs.Numbers.{answered}
+use Rattle.refusals.proofs.Numbers.{answered_none}
 use Rattle.sheet.specs.Format.{joints, labels_start, labels_part, rank_count, rank_start, rankings_part, rank_end, third}
 use Rattle.sheet.specs.Refusals.{sheet_faults, sheet_fault, extents_fault}
-use Rattle.sheet.specs.Square.{square_of}
-use Rattle.sheet.specs.Readings.{parts_of, reading_or, reading_of, square_in}
+use Rattle.sheet.specs.Readings.{parts_of}
 use Rattle.sheet.proofs.FaultLists.{in_first_part, in_second_part}
-use Rattle.sheet.proofs.ReadAs.{square_filled, square_kept}
 
--- a fault that is not 0 is refused with its number
-pub refused_as : (s : List ℕ) (f k : ℕ) → f ≡ k → (k ≡ 0 → ⊥) → Refused k ≡ reading_or s f
-refused_as s f zero e h = absurd (h refl)
-refused_as s f (suc k) e h = rw e
-
+-- no fault: the parts, as they are read
 pub accepted_as : (s : List ℕ) {f n m k l : ℕ} → n ≡ joints s → m ≡ rank_count s → k ≡ rank_start s → l ≡ rank_end s → f ≡ 0
-    → Accepted (record { joints = n; entries = m; labels = labels_start; rankings = k; parents = l }) ≡ reading_or s f
-accepted_as s a b c d e = rw (a, b, c, d, e)
+    → Ok (record { joints = n; entries = m; labels = labels_start; rankings = k; parents = l }) ≡ answered f (parts_of s)
+accepted_as s {f} a b c d e = rw (a, b, c, d) (answered_none (parts_of s) f e)
 
 -- EXTENTS, way by way
 module _ (s : List ℕ) where
@@ -72,11 +68,3 @@ module _ (s : List ℕ) where
     pub by_parents : entries_fault (rank_count s) (joints s) (rankings_part s) ≡ 0 → (k : ℕ) → parents_fault (joints s) (third s) ≡ k → sheet_fault s ≡ k
     unfolding sheet_fault extents_fault sheet_faults
     by_parents clean k e = in_second_part 6 (sheet_faults s) lie ∙ fault_passes _ _ clean ∙ last_fault _ ∙ e
-
--- THE WHOLE ANSWER, and the square beside it
-module _ (s : List ℕ) (old : List (List ℕ)) where
-  pub refused : (k : ℕ) → sheet_fault s ≡ k → (k ≡ 0 → ⊥) → (Refused k ≡ reading_of s) × (old ≡ square_in s old)
-  refused k e h = (refused_as s (sheet_fault s) k e h, sym (square_kept s old k e h))
-
-  pub all_read : sheet_fault s ≡ 0 → (Accepted (parts_of s) ≡ reading_of s) × (square_of s ≡ square_in s old)
-  all_read e = (rw e, sym (square_filled s old e))

@@ -1,11 +1,11 @@
 -- What reading promises of every sheet.
-use Rattle.std.specs.Prelude.{◌≡◌, List, ◌⊎◌, ◌↔◌, ℕ, ◌+◌, ◌*◌, ◌-◌, ◌≤◌, ◌<◌, length, get_or, take}
+use Rattle.std.specs.Prelude.{◌≡◌, List, Ok, ◌⊎◌, ◌↔◌, ℕ, ◌+◌, ◌*◌, ◌-◌, ◌≤◌, ◌<◌, length, get_or, take}
 use Rattle.base.specs.Claims.{First}
 use Rattle.base.specs.Faults.{first_fault}
 use Rattle.sections.specs.Entries.{entry_width, band_in}
 use Rattle.sections.specs.Claims.{Sound, Each, Ascending}
 use Rattle.square.specs.Mutual.{mutual_entries, mutual_band}
-use Rattle.sheet.specs.declared.Reading.TheVariants.{Accepted, Refused}
+use Rattle.refusals.specs.Numbers.{RefusedAs}
 use Rattle.parents.specs.Claims.{IsSection}
 use Rattle.sheet.specs.Format.{joints, rank_count, entries_of, third}
 use Rattle.sheet.specs.Refusals.{sheet_faults, sheet_fault}
@@ -15,10 +15,10 @@ use Rattle.sheet.specs.Readings.{parts_of, reading_of}
 
 -- a sheet is refused with k exactly if k is the first of its faults, and accepted exactly if it has none
 abbrev pub RefusedFirst : Type 0
-RefusedFirst = (s : List ℕ) (k : ℕ) → reading_of s ≡ Refused k ↔ First k (sheet_faults s)
+RefusedFirst = (s : List ℕ) (k : ℕ) → RefusedAs (reading_of s) k ↔ First k (sheet_faults s)
 
 abbrev pub AcceptedNone : Type 0
-AcceptedNone = (s : List ℕ) → reading_of s ≡ Accepted (parts_of s) ↔ ((i : ℕ) → get_or (sheet_faults s) i 0 ≡ 0)
+AcceptedNone = (s : List ℕ) → reading_of s ≡ Ok (parts_of s) ↔ ((i : ℕ) → get_or (sheet_faults s) i 0 ≡ 0)
 
 -- the numbers that a sheet is refused with: 1 to 6, 8 and 18
 abbrev pub OfSheet : ℕ → Type 0

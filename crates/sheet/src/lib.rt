@@ -1,13 +1,17 @@
 // Reads whole sheets: bytes from outside, in the format of documents 01 and 02.
 #![tactic(auto)]
 
-ghost use Rattle.std.specs.Prelude.{◌≡◌, ◌+◌, ◌*◌, ◌<◌, length, get_or};
-ghost use Rattle.sheet.specs.Refusals.{extents_fault};
-ghost use Rattle.sheet.specs.Readings.{reading_or, reading_of, square_in};
+mod rankings;
 
-use base::wide;
+ghost use Rattle.std.specs.Prelude.{◌≡◌, ◌+◌, ◌*◌, ◌<◌, length, get_or, Err, MatchResult};
+ghost use Rattle.refusals.specs.Numbers.{answered};
+ghost use Rattle.sheet.specs.Refusals.{extents_fault};
+ghost use Rattle.sheet.specs.Readings.{parts_of, reading_of, square_in, ReadsAs};
+
 use parents::{parents_extent, read_third};
-use sections::{ENTRY_WIDTH, Section};
+pub use rankings::Rankings;
+use refusals::Refusal;
+use sections::{ENTRY_WIDTH, Joints};
 
 // Where the labels begin.
 const LABELS: usize = 1;
@@ -23,11 +27,11 @@ pub struct Parts {
     pub parents: usize,
 }
 
-// What reading a whole sheet answers: its parts, or the number of the refusal.
+// What an accepted sheet is read as.
 #[derive(Clone, Copy)]
-pub enum Reading {
-    Accepted(Parts),
-    Refused(u8),
+pub struct Sheet {
+    pub parts: Parts,
+    pub rankings: Rankings,
 }
 
 // A count of two bytes, low byte first.
@@ -36,40 +40,31 @@ fn count_at(sheet: &[u8], at: usize) -> usize
     ensures value { result ≡ get_or sheet.now at 0 + 256 * get_or sheet.now (at + 1) 0 }
     ensures upper_bound { result < 65536 }
 {
-    wide(sheet[at]) + 256 * wide(sheet[at + 1])
+    usize::from(sheet[at]) + 256 * usize::from(sheet[at + 1])
 }
 
 // Where the sections lie, and the labels' contents.
-fn extents(sheet: &[u8]) -> Reading
-    ensures { result ≡ reading_or sheet.now (extents_fault sheet.now) }
+fn extents(sheet: &[u8]) -> Result<Parts, Refusal>
+    ensures { result ≡ answered (extents_fault sheet.now) (parts_of sheet.now) }
 {
     if sheet.len() == 0 {
-        return Reading::Refused(1);
+        return Err(Refusal::SheetCutShort);
     }
-    let n = wide(sheet[0]);
-    if 128 < n {
-        return Reading::Refused(2);
-    }
-    let found = sections::read_labels(&sheet[LABELS..], n);
-    let Section::Read(size) = found else {
-        return Reading::Refused(sections::number(found));
-    };
+    let n = Joints::try_from(sheet[0])?;
+    let size = sections::read_labels(&sheet[LABELS..], n)?;
     let count = LABELS + size;
     let start = count + 2;
     if sheet.len() < start {
-        return Reading::Refused(1);
+        return Err(Refusal::SheetCutShort);
     }
     let m = count_at(sheet, count);
     let end = start + ENTRY_WIDTH * m;
     if sheet.len() < end {
-        return Reading::Refused(1);
+        return Err(Refusal::SheetCutShort);
     }
-    let third = parents_extent(&sheet[end..]);
-    let Section::Read(_) = third else {
-        return Reading::Refused(sections::number(third));
-    };
-    Reading::Accepted(Parts {
-        joints: n,
+    parents_extent(&sheet[end..])?;
+    Ok(Parts {
+        joints: n.count,
         entries: m,
         labels: LABELS,
         rankings: start,
@@ -77,28 +72,32 @@ fn extents(sheet: &[u8]) -> Reading
     })
 }
 
-// Reads a whole sheet, and fills the square with its mutual listings if it is accepted: the way in for every crate above.
-// Every input is accepted, or refused with the first number that applies; a refused one leaves the square as it was.
-pub fn lists(sheet: &[u8], bands: &mut [[u8; 128]; 128]) -> Reading
+// Reads a whole sheet, and fills a lent square with its mutual listings if it is accepted; a refused one leaves the square as it was. For calls
+// that should take little stack: `read` answers a square, which lies on it more than once.
+pub fn lists(sheet: &[u8], bands: &mut [[u8; 128]; 128]) -> Result<Parts, Refusal>
     ensures value { result ≡ reading_of sheet.now }
     ensures bands_after { bands.new ≡ square_in sheet.now bands.old }
 {
-    let found = extents(sheet);
-    let Reading::Accepted(parts) = found else {
-        return found;
+    let parts = extents(sheet)?;
+    let part = &sheet[parts.rankings..];
+    sections::read_entries(part, parts.joints, parts.entries)?;
+    read_third(&sheet[parts.parents..], parts.joints)?;
+    square::fill(part, parts.entries, bands);
+    Ok(parts)
+}
+
+// Reads a whole sheet, with the square of its mutual listings: the way in for every crate above.
+// Every input is accepted, or refused with the first number that applies.
+pub fn read(sheet: &[u8]) -> Result<Sheet, Refusal>
+    ensures { MatchResult result (λ read. ReadsAs sheet.now read) (λ refusal. reading_of sheet.now ≡ Err refusal) }
+{
+    let mut bands = [[0u8; 128]; 128];
+    let parts = lists(sheet, &mut bands)?;
+    let joints = Joints {
+        count: parts.joints,
     };
-    let m = parts.entries;
-    let start = parts.rankings;
-    let part = &sheet[start..];
-    let listed = sections::read_entries(part, parts.joints, m);
-    let Section::Read(_) = listed else {
-        return Reading::Refused(sections::number(listed));
-    };
-    let end = parts.parents;
-    let third = read_third(&sheet[end..], parts.joints);
-    let Section::Read(_) = third else {
-        return Reading::Refused(sections::number(third));
-    };
-    square::fill(part, m, bands);
-    found
+    Ok(Sheet {
+        parts,
+        rankings: Rankings { joints, bands },
+    })
 }

@@ -1,166 +1,108 @@
 // Compares what reading a sheet answers with what a case expects.
-ghost use Rattle.std.specs.Prelude.{◌≤◌};
+use crate::build::number_of;
+use arrayvec::ArrayString;
+use sheet::Parts;
+use skeleton::follow;
+use std::fmt::Write;
 
-use crate::words::{count_of, number_of, part};
-use sheet::{Parts, Reading};
-use skeleton::{Followed, follow};
+type Bands = [[u8; 128]; 128];
 
-// The places of a square, and what they hold before a sheet is read: no band.
-const PLACES: usize = 16384;
-
+// What a square holds before a sheet is read: no band.
 const MARK: u8 = 255;
 
-// Said of a sheet that reads as its line says.
-pub(crate) const AGREES: u8 = 255;
-
-// How many places of a square have a band.
-fn count_places(bands: &[[u8; 128]; 128], band: u8) -> usize
-    ensures { result ≤ 16384 }
-{
-    let mut found = 0;
-    let mut i = 0;
-    while i < PLACES {
-        if bands[i / 128][i % 128] == band {
-            found += 1;
-        }
-        i += 1;
-    }
-    found
+// Reads a sheet: its parts, or the number of a refusal.
+fn read(sheet: &[u8], bands: &mut Bands) -> Result<Parts, u8> {
+    sheet::lists(sheet, bands).map_err(u8::from)
 }
 
-// Is word k of the text the number?
-fn says(text: &[u8], k: usize, number: usize) -> bool {
-    number_of(part(text, b' ', k)) == number
-}
-
-// What follow answers where nobody of n joints is paired: a refusal's number, 0 if all pairs follow.
-fn follow_alone(sheet: &[u8], n: usize) -> u8 {
-    let alone = [255u8; 128];
-    if 128 < n {
-        return AGREES;
-    }
-    let answer = follow(sheet, &alone[0..n]);
-    match answer {
-        Followed::Refused(number) => number,
-        Followed::All => 0,
-        Followed::Astray(_) => AGREES,
+// Do all pairs follow where nobody of n joints is paired? Or the number of a refusal.
+fn follow_alone(sheet: &[u8], n: usize) -> Result<bool, u8> {
+    match follow(sheet, &[255u8; 128][..n.min(128)]) {
+        Ok(strays) => Ok(strays.is_none()),
+        Err(refusal) => Err(u8::from(refusal)),
     }
 }
 
-// What is said of a refused sheet: AGREES for the number that is expected, of follow too, and the square as it was.
-fn refused_as(sheet: &[u8], line: &[u8], number: u8, bands: &[[u8; 128]; 128]) -> u8 {
-    if count_places(bands, MARK) < PLACES {
-        return number;
-    }
-    if follow_alone(sheet, 0) != number {
-        return number;
-    }
-    if says(part(line, b';', 1), 0, base::wide(number)) {
-        return AGREES;
-    }
-    number
+// Refused by the number that is expected, by follow too, and the square is as it was.
+fn is_refused_so(sheet: &[u8], number: u8, bands: &Bands, expected: &str) -> bool {
+    bands.as_flattened().iter().all(|band| *band == MARK)
+        && follow_alone(sheet, 0) == Err(number)
+        && expected.parse().ok() == Some(number)
 }
 
-// Accepted with the parts that are expected.
-fn accepted_so(expected: &[u8], parts: Parts) -> bool {
-    if !check::same(part(expected, b' ', 0), b"ok") {
-        return false;
-    }
-    if !says(expected, 1, parts.joints) {
-        return false;
-    }
-    if !says(expected, 2, parts.entries) {
-        return false;
-    }
-    if !says(expected, 3, parts.labels) {
-        return false;
-    }
-    if !says(expected, 4, parts.rankings) {
-        return false;
-    }
-    says(expected, 5, parts.parents)
-}
-
-// Is k the band of b on a's list?
-fn band_is(bands: &[[u8; 128]; 128], a: usize, b: usize, k: usize) -> bool {
-    if 127 < a {
-        return false;
-    }
-    if 127 < b {
-        return false;
-    }
-    base::wide(bands[a][b]) == k
-}
-
-// Is the text label i?
-fn label_is(sheet: &[u8], i: usize, text: &[u8]) -> bool {
-    if 127 < i {
-        return false;
-    }
-    if sheet.len() < 17 + 16 * i {
-        return false;
-    }
-    check::same(sections::label_at(sheet, 1, i), text)
-}
-
-// One check of an accepted sheet: `band a b k`, or `label i text`.
-fn check_holds(sheet: &[u8], bands: &[[u8; 128]; 128], claim: &[u8]) -> bool {
-    let i = number_of(part(claim, b' ', 1));
-    let second = part(claim, b' ', 2);
-    if check::same(part(claim, b' ', 0), b"label") {
-        return label_is(sheet, i, second);
-    }
-    band_is(bands, i, number_of(second), number_of(part(claim, b' ', 3)))
-}
-
-// All checks, separated by commas.
-fn checks_hold(sheet: &[u8], bands: &[[u8; 128]; 128], claims: &[u8]) -> bool {
-    if claims.len() == 0 {
-        return true;
-    }
-    let last = count_of(claims, b',');
-    let mut k = 0;
-    while k <= last {
-        let holds = check_holds(sheet, bands, part(claims, b',', k));
-        if !holds {
-            return false;
-        }
-        k += 1;
-    }
-    true
+// Accepted with the parts that are expected, and as many places of the square with a band.
+fn is_accepted_so(parts: Parts, bands: &Bands, expected: &str) -> bool {
+    let Parts {
+        joints,
+        entries,
+        labels,
+        rankings,
+        parents,
+    } = parts;
+    let places = bands
+        .as_flattened()
+        .iter()
+        .filter(|band| **band != 0)
+        .count();
+    let mut text: ArrayString<64> = ArrayString::new();
+    let written = write!(
+        text,
+        "ok {joints} {entries} {labels} {rankings} {parents} {places}"
+    );
+    written.is_ok() && text.as_str() == expected
 }
 
 // Nobody paired follows, if the sheet has a third section, and else it is missed.
-fn followed_so(sheet: &[u8], parts: Parts) -> bool {
-    let due = if parts.parents < sheet.len() { 0 } else { 18 };
+fn is_followed_so(sheet: &[u8], parts: Parts) -> bool {
+    let due = if parts.parents < sheet.len() {
+        Ok(true)
+    } else {
+        Err(18)
+    };
     follow_alone(sheet, parts.joints) == due
 }
 
-// What is said of an accepted sheet: AGREES for the parts that are expected, as many places of the square with a band, what follow answers,
-// and checks that hold.
-fn accepted_as(sheet: &[u8], parts: Parts, bands: &[[u8; 128]; 128], line: &[u8]) -> u8 {
-    let expected = part(line, b';', 1);
-    if !accepted_so(expected, parts) {
-        return 0;
-    }
-    if !says(expected, 6, PLACES - count_places(bands, 0)) {
-        return 0;
-    }
-    if !followed_so(sheet, parts) {
-        return 0;
-    }
-    if checks_hold(sheet, bands, part(line, b';', 3)) {
-        return AGREES;
-    }
-    0
+// Is k the band of b on a's list?
+fn band_is(bands: &Bands, a: usize, b: usize, k: usize) -> bool {
+    let band = bands.get(a).and_then(|row| row.get(b));
+    band.is_some_and(|band| usize::from(*band) == k)
 }
 
-// AGREES if the sheet reads as its line says; else the number of the refusal, 0 for an accepted sheet.
-pub(crate) fn read_as(sheet: &[u8], line: &[u8]) -> u8 {
+// Is the text label i?
+fn label_is(sheet: &[u8], i: usize, text: &str) -> bool {
+    i < 128 && 17 + 16 * i <= sheet.len() && sections::label_at(sheet, 1, i) == text.as_bytes()
+}
+
+// One check of an accepted sheet: `band a b k`, or `label i text`.
+fn check_holds(sheet: &[u8], bands: &Bands, claim: &str) -> bool {
+    let mut words = claim.split(' ');
+    let kind = words.next();
+    let (Some(i), Some(second)) = (words.next().and_then(number_of), words.next()) else {
+        return false;
+    };
+    if kind == Some("label") {
+        return label_is(sheet, i, second);
+    }
+    match (number_of(second), words.next().and_then(number_of)) {
+        (Some(b), Some(k)) => band_is(bands, i, b, k),
+        _ => false,
+    }
+}
+
+// Does the sheet read as its line says? Else the number of the refusal, 0 for an accepted sheet.
+pub fn read_as(sheet: &[u8], expected: &str, checks: &str) -> Result<(), u8> {
     let mut bands = [[MARK; 128]; 128];
-    let found = sheet::lists(sheet, &mut bands);
-    match found {
-        Reading::Refused(number) => refused_as(sheet, line, number, &bands),
-        Reading::Accepted(parts) => accepted_as(sheet, parts, &bands, line),
+    match read(sheet, &mut bands) {
+        Err(number) if is_refused_so(sheet, number, &bands, expected) => Ok(()),
+        Err(number) => Err(number),
+        Ok(parts) => {
+            let is_so = is_accepted_so(parts, &bands, expected)
+                && is_followed_so(sheet, parts)
+                && (checks.is_empty()
+                    || checks
+                        .split(',')
+                        .all(|claim| check_holds(sheet, &bands, claim)));
+            if is_so { Ok(()) } else { Err(0) }
+        }
     }
 }

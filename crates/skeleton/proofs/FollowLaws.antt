@@ -4,7 +4,6 @@ use mathlib.Core.Bool.{true, false, ◌||◌, or-true, or-false}
 use mathlib.Core.List.{List}
 use mathlib.Core.Logic.{◌⊎◌, inl, inr, ◌≢◌}
 use Prim.Native.Nat.{ℕ, ◌≤◌, ◌<◌}
-use native.Mathlib.Omega.{arith}
 use lib.Dec.{eqb}
 use lib.ListN.{length}
 use borrow.Author.Tests.{eqb-true, eq-eqb, ne_eqb, lt-ltb, ltb-true, not-true}
@@ -43,10 +42,6 @@ module _ (ps m : List ℕ) (a b : ℕ) where
       (λ r. both_roots r (sym e ∙ r))
       (λ ne. by_parents ne (λ r. ne (e ∙ r)) ∙ rw (eq-eqb (parent_of ps a) (parent_of ps b) e) (or-true (eqb (partner m (parent_of ps a)) (parent_of ps b))))
 
-  pub other_parents : parent_of ps a ≢ 255 → parent_of ps b ≢ 255 → parent_of ps a ≢ parent_of ps b
-      → follows ps m a b ≡ eqb (partner m (parent_of ps a)) (parent_of ps b)
-  other_parents e f ne = by_parents e f ∙ rw (ne_eqb (parent_of ps a) (parent_of ps b) ne) (or-false (eqb (partner m (parent_of ps a)) (parent_of ps b)))
-
 pub follows_means : FollowsMeans
 follows_means ps m a b =
     case (eq_ne (parent_of ps a) 255)
@@ -80,8 +75,3 @@ module _ (ps m : List ℕ) where
       let one : (j : ℕ) × (j < length m) × (is_stray ps m j ≡ true) = counted (length m) (is_stray ps m) some in
       let within = some_passes (length m) (is_stray ps m) one.0 one.1 one.2 in
       (within, lowest_passes (length m) (is_stray ps m) within)
-
-  pub lowest_pair : stray_count ps m ≢ 0 → {b : ℕ} → b ≡ lowest_stray ps m → (b < length m) × (partner m b < b)
-  lowest_pair some e =
-      let found = stray_found (omega arith) in
-      rw e (found.0, (stray_is (lowest_stray ps m) found.1).0)

@@ -3,7 +3,7 @@ use mathlib.Core.Path.{◌≡◌, refl, sym, ap, subst, ◌∙◌}
 use mathlib.Core.Bool.{true, false, not}
 use mathlib.Core.List.{List, [], ◌∷◌}
 use mathlib.Core.Logic.{◌⊎◌, inl, inr, ◌≢◌, ◌↔◌}
-use Prim.Native.Nat.{ℕ, zero, suc, ◌+◌, ◌≤◌}
+use Prim.Native.Nat.{ℕ, ◌+◌, ◌≤◌}
 use native.Mathlib.Omega.{arith}
 use lib.ListN.{length}
 use borrow.Author.Tests.{lt-ltb, le-ltb, ltb-true}
@@ -26,11 +26,13 @@ use Rattle.matching.specs.Plain.{Matching}
 use Rattle.matching.proofs.MatchingTest.{is_matching_means}
 use Rattle.matching.proofs.PairCounts.{paired_few}
 use Rattle.matching.proofs.PairNumbers.{pair_number_small}
-use Rattle.skeleton.specs.declared.Followed.{Followed}
-use Rattle.skeleton.specs.declared.Followed.TheVariants as F
+use Rattle.std.specs.Prelude.{Option, Some, None}
+use Rattle.refusals.specs.Numbers.{RefusedAs}
+use Rattle.refusals.proofs.Numbers as refusals
+use Rattle.skeleton.specs.declared.Strays.{Strays}
 use Rattle.skeleton.specs.Following.{stray_count, follow_count, stray_number}
 use Rattle.skeleton.specs.Plain.{Stray, LowestStray}
-use Rattle.skeleton.specs.Answers.{astray_by, followed, follow_faults, followed_as, follow_of}
+use Rattle.skeleton.specs.Answers.{astray_by, followed, answer_all, answer_astray, follow_faults, follow_of}
 use Rattle.skeleton.specs.Claims.{Judged, FollowKeeps, FollowsKept}
 use Rattle.skeleton.proofs.AnswerLaws.{all_follow, some_stray}
 use Rattle.skeleton.proofs.StrayRule.{strays_none, strays_counted, strays_lowest}
@@ -38,60 +40,39 @@ use Rattle.skeleton.proofs.EqualDepth.{equal_depth}
 
 -- THE PAIRS, by how many do not follow
 -- the numbers that such an answer has
-pairs_in : Followed → ℕ
-pairs_in (F.Refused k) = 0
-pairs_in F.All = 0
-pairs_in (F.Astray r) = r.pairs
+pairs_in : Option Strays → ℕ
+pairs_in None = 0
+pairs_in (Some r) = r.pairs
 
-lowest_in : Followed → ℕ
-lowest_in (F.Refused k) = 0
-lowest_in F.All = 0
-lowest_in (F.Astray r) = r.lowest
+lowest_in : Option Strays → ℕ
+lowest_in None = 0
+lowest_in (Some r) = r.lowest
 
 module _ (ps m : List ℕ) where
-  none_stray : stray_count ps m ≡ 0 → followed ps m ≡ F.All
+  none_stray : stray_count ps m ≡ 0 → followed ps m ≡ None
   none_stray e = sym (all_follow ps m e)
 
-  counted_stray : stray_count ps m ≢ 0 → followed ps m ≡ astray_by (stray_count ps m) (stray_number ps m)
+  counted_stray : stray_count ps m ≢ 0 → followed ps m ≡ Some (astray_by (stray_count ps m) (stray_number ps m))
   counted_stray ne = sym (some_stray ps m ne refl refl)
 
-  followed_all : followed ps m ≡ F.All ↔ (stray_count ps m ≡ 0)
+  followed_all : followed ps m ≡ None ↔ (stray_count ps m ≡ 0)
   followed_all = (
-    λ h. case (eq_ne (stray_count ps m) 0) (λ e. e) (λ ne. let i : astray_by _ _ ≡ F.All = sym (counted_stray ne) ∙ h in absurd (unlike cc)),
+    λ h. case (eq_ne (stray_count ps m) 0) (λ e. e) (λ ne. let i : Some _ ≡ None = sym (counted_stray ne) ∙ h in absurd (unlike cc)),
     none_stray,
   )
 
-  followed_astray : (k l : ℕ) → followed ps m ≡ astray_by k l ↔ ((1 ≤ k) × (k ≡ stray_count ps m) × (l ≡ stray_number ps m))
+  followed_astray : (k l : ℕ) → followed ps m ≡ Some (astray_by k l) ↔ ((1 ≤ k) × (k ≡ stray_count ps m) × (l ≡ stray_number ps m))
   unfolding pairs_in lowest_in
   followed_astray k l = (
     λ h. case (eq_ne (stray_count ps m) 0)
-        (λ e. let i : F.All ≡ astray_by k l = sym (none_stray e) ∙ h in absurd (unlike cc))
+        (λ e. let i : None ≡ Some (astray_by k l) = sym (none_stray e) ∙ h in absurd (unlike cc))
         (λ ne.
-        let i : astray_by (stray_count ps m) (stray_number ps m) ≡ astray_by k l = sym (counted_stray ne) ∙ h in
+        let i : Some (astray_by (stray_count ps m) (stray_number ps m)) ≡ Some (astray_by k l) = sym (counted_stray ne) ∙ h in
         let e : stray_count ps m ≡ k = ap pairs_in i in
         let f : stray_number ps m ≡ l = ap lowest_in i in
         (omega arith, sym e, sym f)),
     λ h. counted_stray (λ z. omega (arith, h.0, h.1)) ∙ rw (h.1, h.2) refl,
   )
-
-  not_refused : (k : ℕ) → followed ps m ≡ F.Refused k → ⊥
-  not_refused k h = case (eq_ne (stray_count ps m) 0)
-      (λ e. let i : F.All ≡ F.Refused k = sym (none_stray e) ∙ h in unlike cc)
-      (λ ne. let i : astray_by _ _ ≡ F.Refused k = sym (counted_stray ne) ∙ h in unlike cc)
-
--- AN ANSWER by the first refusal and the pairs
-refused_says : (f k : ℕ) (pairs : Followed) → ((k : ℕ) → pairs ≡ F.Refused k → ⊥) → followed_as f pairs ≡ F.Refused k ↔ ((f ≡ k) × (1 ≤ k))
-refused_says zero k pairs no-refusal = (λ h. absurd (no-refusal k h), λ h. absurd (omega arith))
-refused_says (suc f) k pairs no-refusal = (λ h. let e : suc f ≡ k = cc in (e, omega arith), λ h. ap F.Refused h.0)
-
--- no refusal: the answer is of the pairs
-module _ (f : ℕ) (pairs x : Followed) (no-refusal : (k : ℕ) → x ≡ F.Refused k → ⊥) where
-  judged_says : followed_as f pairs ≡ x ↔ ((f ≡ 0) × (pairs ≡ x))
-  judged_says = go f
-    where
-      go : (f : ℕ) → followed_as f pairs ≡ x ↔ ((f ≡ 0) × (pairs ≡ x))
-      go zero = (λ h. (refl, h), λ h. h.1)
-      go (suc k) = (λ h. absurd (no-refusal (suc k) (sym h)), λ h. absurd (omega arith))
 
 -- a refusal's number
 abbrev Number : ℕ → Type 0
@@ -129,10 +110,33 @@ module _ (s m : List ℕ) where
   abbrev ten : ℕ
   ten = when (not (is_matching n t m)) 10
 
-  says : (k : ℕ) → follow_of s m ≡ F.Refused k ↔ ((first_fault faults ≡ k) × (1 ≤ k))
-  says k = refused_says (first_fault faults) k (followed ps m) (not_refused ps m)
+  any : Number (first_fault faults)
+  any = first_holds Number _ _ own
+      (first_holds Number _ _ (when_holds Number (not (is_there (third s))) 18 none (λ some. inl (inr (inr refl))))
+      (rw (last_fault ten) (when_holds Number (not (is_matching n t m)) 10 none (λ some. inr refl))))
+    where
+      none : Number 0
+      none some = absurd (omega arith)
 
-  first : (k : ℕ) → follow_of s m ≡ F.Refused k ↔ First k faults
+      own : Number (sheet_fault s)
+      own some = case (sheet_numbers s) (λ z. absurd (omega arith)) inl
+
+  -- each is a refusal's number
+  is_fault : refusals.IsFault (first_fault faults)
+  is_fault = case (eq_ne (first_fault faults) 0) inl (λ some.
+      let number = any (omega arith) in
+      case number
+      (λ o. case o
+      (λ low. refusals.is_fault (first_fault faults) (omega (arith, low.1)) (λ e. omega (arith, low.1)))
+      (λ r. case r
+      (λ e. refusals.is_fault (first_fault faults) (omega arith) (λ f. omega arith))
+      (λ e. refusals.is_fault (first_fault faults) (omega arith) (λ f. omega arith))))
+      (λ e. refusals.is_fault (first_fault faults) (omega arith) (λ f. omega arith)))
+
+  says : (k : ℕ) → RefusedAs (follow_of s m) k ↔ ((first_fault faults ≡ k) × (1 ≤ k))
+  says k = refusals.refused_as (followed ps m) (first_fault faults) is_fault k
+
+  first : (k : ℕ) → RefusedAs (follow_of s m) k ↔ First k faults
   first k = let b = first_answered faults k in (λ h. b.0 ((says k).0 h), λ h. (says k).1 (b.1 h))
 
   -- no refusal: an accepted sheet with parents, and a matching
@@ -152,37 +156,28 @@ module _ (s m : List ℕ) where
         fault_passes _ _ j.accepted ∙ fault_passes _ _ x ∙ last_fault ten ∙ y,
   )
 
-  numbers : (k : ℕ) → follow_of s m ≡ F.Refused k → OfSheet k ⊎ (k ≡ 10)
+  numbers : (k : ℕ) → RefusedAs (follow_of s m) k → OfSheet k ⊎ (k ≡ 10)
   numbers k h =
       let r = (says k).0 h in
-      let any : Number (first_fault faults) = first_holds Number _ _ own
-      (first_holds Number _ _ (when_holds Number (not (is_there (third s))) 18 none (λ some. inl (inr (inr refl))))
-      (rw (last_fault ten) (when_holds Number (not (is_matching n t m)) 10 none (λ some. inr refl)))) in
       let at : Number k = rw r.0 at any in
       at r.1
-    where
-      none : Number 0
-      none some = absurd (omega arith)
-
-      own : Number (sheet_fault s)
-      own some = case (sheet_numbers s) (λ z. absurd (omega arith)) inl
 
   -- a number that is answered exactly if P
-  answered : {P : Type 0} (k : ℕ) → 1 ≤ k → first_fault faults ≡ k ↔ P → follow_of s m ≡ F.Refused k ↔ P
-  answered k some by = (λ h. by.0 ((says k).0 h).0, λ p. (says k).1 (by.1 p, some))
+  answered_by : {P : Type 0} (k : ℕ) → 1 ≤ k → first_fault faults ≡ k ↔ P → RefusedAs (follow_of s m) k ↔ P
+  answered_by k some by = (λ h. by.0 ((says k).0 h).0, λ p. (says k).1 (by.1 p, some))
 
-  by_sheet : (k : ℕ) → OfSheet k → k ≢ 18 → follow_of s m ≡ F.Refused k ↔ (sheet_fault s ≡ k)
+  by_sheet : (k : ℕ) → OfSheet k → k ≢ 18 → RefusedAs (follow_of s m) k ↔ (sheet_fault s ≡ k)
   by_sheet k own ne =
       let some = of_sheet_some k own in
       let x = unless_other (is_there (third s)) 18 k some (λ e. ne (sym e)) in
       let y = unless_other (is_matching n t m) 10 k some (λ e. not_of_sheet k own (omega arith) (omega arith)) in
-      answered k some (fault_here (sheet_fault s) _ k some (first_holds (λ i. i ≢ k) eighteen _ x (rw (last_fault ten) y)))
+      answered_by k some (fault_here (sheet_fault s) _ k some (first_holds (λ i. i ≢ k) eighteen _ x (rw (last_fault ten) y)))
 
-  by_eighteen : follow_of s m ≡ F.Refused 18 ↔ ((sheet_fault s ≡ 18) ⊎ ((sheet_fault s ≡ 0) × (third s ≡ [])))
+  by_eighteen : RefusedAs (follow_of s m) 18 ↔ ((sheet_fault s ≡ 18) ⊎ ((sheet_fault s ≡ 0) × (third s ≡ [])))
   by_eighteen =
       let last : first_fault (ten ∷ []) ≢ 18 = rw (last_fault ten) (unless_other (is_matching n t m) 10 18 (omega arith) (λ e. omega arith)) in
       let own = fault_here eighteen (ten ∷ []) 18 (omega arith) last in
-      answered 18 (omega arith) (
+      answered_by 18 (omega arith) (
         λ h. case (eq_ne (sheet_fault s) 18) inl
             (λ ne. let r = (fault_behind (sheet_fault s) _ 18 ne).0 h in inr (r.0, nothing (third s) (unless_is (is_there (third s)) 17 (own.0 r.1)))),
         λ h. case h
@@ -193,11 +188,11 @@ module _ (s m : List ℕ) where
       left_out : third s ≡ [] → eighteen ≡ 18
       left_out e = let z : length (third s) ≡ 0 = ap length e in rw (le-ltb 0 (length (third s)) (omega arith)) refl
 
-  by_ten : follow_of s m ≡ F.Refused 10 ↔ ((sheet_fault s ≡ 0) × (third s ≢ []) × ((length m ≡ n) × Matching n (at t) (partner m) → ⊥))
+  by_ten : RefusedAs (follow_of s m) 10 ↔ ((sheet_fault s ≡ 0) × (third s ≢ []) × ((length m ≡ n) × Matching n (at t) (partner m) → ⊥))
   by_ten =
       let sheet = fault_behind (sheet_fault s) (eighteen ∷ ten ∷ []) 10 (sheet_not s 10 (omega arith) (omega arith)) in
       let parents = fault_behind eighteen (ten ∷ []) 10 (unless_other (is_there (third s)) 18 10 (omega arith) (λ e. omega arith)) in
-      answered 10 (omega arith) (
+      answered_by 10 (omega arith) (
         λ h.
             let r = sheet.0 h in
             let l = parents.0 r.1 in
@@ -223,17 +218,17 @@ module _ (s m : List ℕ) where
     lowest_of : 1 ≤ stray_count ps m → LowestStray n (parent_of ps) (partner m) (stray_number ps m)
     lowest_of some = subst (λ (k : ℕ). LowestStray k (parent_of ps) (partner m) (stray_number ps m)) j.matching.0 (strays_lowest ps m some)
 
-  all : follow_of s m ≡ F.All ↔ (Judged s m × NoneStray)
+  all : follow_of s m ≡ answer_all ↔ (Judged s m × NoneStray)
   all =
-      let a = judged_says (first_fault faults) (followed ps m) F.All (λ k h. unlike cc) in (
+      let a = refusals.value_as (followed ps m) (first_fault faults) is_fault None in (
         λ h. let r = a.0 h in let j = passes.0 r.0 in (j, (none_of j).0 ((followed_all ps m).0 r.1)),
         λ h. a.1 (passes.1 h.0, (followed_all ps m).1 ((none_of h.0).1 h.1)),
       )
 
-  astray : (k l : ℕ) → follow_of s m ≡ astray_by k l
+  astray : (k l : ℕ) → follow_of s m ≡ answer_astray k l
       ↔ (Judged s m × (1 ≤ k) × (k ≡ stray_count ps m) × LowestStray n (parent_of ps) (partner m) l)
   astray k l =
-      let a = judged_says (first_fault faults) (followed ps m) (astray_by k l) (λ i h. unlike cc) in (
+      let a = refusals.value_as (followed ps m) (first_fault faults) is_fault (Some (astray_by k l)) in (
         λ h.
             let r = a.0 h in
             let j = passes.0 r.0 in
@@ -250,13 +245,13 @@ module _ (s m : List ℕ) where
       only_one : {n : ℕ} {parent partner : ℕ → ℕ} {j k : ℕ} → LowestStray n parent partner j → LowestStray n parent partner k → j ≤ k
       only_one v w = let l = v.lowest _ _ w.stray in omega (arith, w.numbered)
 
-  all_counted : (k l : ℕ) → follow_of s m ≡ astray_by k l → k + follow_count ps m ≡ pair_count m
+  all_counted : (k l : ℕ) → follow_of s m ≡ answer_astray k l → k + follow_count ps m ≡ pair_count m
   all_counted k l h =
       let r = (astray k l).0 h in
       let j = r.0 in
       omega (arith, r.2, strays_counted n t ps m (accepted_square s j.accepted) ((is_matching_means n t m).1 j.matching))
 
-  few : (k l : ℕ) → follow_of s m ≡ astray_by k l → (k ≤ 64) × (l ≤ 8127)
+  few : (k l : ℕ) → follow_of s m ≡ answer_astray k l → (k ≤ 64) × (l ≤ 8127)
   few k l h =
       let r = (astray k l).0 h in
       let j = r.0 in

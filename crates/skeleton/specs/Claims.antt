@@ -10,10 +10,10 @@ use Rattle.sheet.specs.Square.{at, square_of, SquarePromise}
 use Rattle.sheet.specs.Claims.{OfSheet}
 use Rattle.matching.specs.Matchings.{partner, is_matching, pair_count}
 use Rattle.matching.specs.Plain.{Matching}
-use Rattle.skeleton.specs.declared.Followed.TheVariants as F
 use Rattle.skeleton.specs.Following.{follows, stray_count, follow_count, stray_number}
 use Rattle.skeleton.specs.Plain.{Follows, Stray, LowestStray}
-use Rattle.skeleton.specs.Answers.{astray_by, follow_faults, follow_of}
+use Rattle.refusals.specs.Numbers.{RefusedAs}
+use Rattle.skeleton.specs.Answers.{answer_all, answer_astray, follow_faults, follow_of}
 
 abbrev pub FollowsMeans : Type 0
 FollowsMeans = (ps m : List ℕ) (a b : ℕ) → follows ps m a b ≡ true ↔ Follows (parent_of ps) (partner m) a b
@@ -45,22 +45,22 @@ pub record Judged (s m : List ℕ) : Type 0 where
   pub matching : (length m ≡ joints s) × Matching (joints s) (at (square_of s)) (partner m)
 
 pub record FollowKeeps (s m : List ℕ) : Type 0 where
-  pub first : (k : ℕ) → follow_of s m ≡ F.Refused k ↔ First k (follow_faults s m)
+  pub first : (k : ℕ) → RefusedAs (follow_of s m) k ↔ First k (follow_faults s m)
   -- refusals number by number and both ways
-  pub numbers : (k : ℕ) → follow_of s m ≡ F.Refused k → OfSheet k ⊎ (k ≡ 10)
-  pub by_sheet : (k : ℕ) → OfSheet k → k ≢ 18 → follow_of s m ≡ F.Refused k ↔ (sheet_fault s ≡ k)
-  pub by_eighteen : follow_of s m ≡ F.Refused 18 ↔ ((sheet_fault s ≡ 18) ⊎ ((sheet_fault s ≡ 0) × (third s ≡ [])))
-  pub by_ten : follow_of s m ≡ F.Refused 10
+  pub numbers : (k : ℕ) → RefusedAs (follow_of s m) k → OfSheet k ⊎ (k ≡ 10)
+  pub by_sheet : (k : ℕ) → OfSheet k → k ≢ 18 → RefusedAs (follow_of s m) k ↔ (sheet_fault s ≡ k)
+  pub by_eighteen : RefusedAs (follow_of s m) 18 ↔ ((sheet_fault s ≡ 18) ⊎ ((sheet_fault s ≡ 0) × (third s ≡ [])))
+  pub by_ten : RefusedAs (follow_of s m) 10
       ↔ ((sheet_fault s ≡ 0) × (third s ≢ []) × ((length m ≡ joints s) × Matching (joints s) (at (square_of s)) (partner m) → ⊥))
   -- all pairs follow; or so many do not, and the number is the lowest of one
-  pub all : follow_of s m ≡ F.All ↔ (Judged s m × ((a b : ℕ) → Stray (joints s) (parent_of (parents_of s)) (partner m) a b → ⊥))
-  pub astray : (k l : ℕ) → follow_of s m ≡ astray_by k l
+  pub all : follow_of s m ≡ answer_all ↔ (Judged s m × ((a b : ℕ) → Stray (joints s) (parent_of (parents_of s)) (partner m) a b → ⊥))
+  pub astray : (k l : ℕ) → follow_of s m ≡ answer_astray k l
       ↔ (Judged s m × (1 ≤ k) × (k ≡ stray_count (parents_of s) m) × LowestStray (joints s) (parent_of (parents_of s)) (partner m) l)
   -- the other pairs follow
-  pub counted : (k l : ℕ) → follow_of s m ≡ astray_by k l → k + follow_count (parents_of s) m ≡ pair_count m
-  pub few : (k l : ℕ) → follow_of s m ≡ astray_by k l → (k ≤ 64) × (l ≤ 8127)
+  pub counted : (k l : ℕ) → follow_of s m ≡ answer_astray k l → k + follow_count (parents_of s) m ≡ pair_count m
+  pub few : (k l : ℕ) → follow_of s m ≡ answer_astray k l → (k ≤ 64) × (l ≤ 8127)
   -- where all follow, paired joints have equal depth
-  pub equal_depth : follow_of s m ≡ F.All → DepthsAgree (joints s) (parents_of s) (partner m)
+  pub equal_depth : follow_of s m ≡ answer_all → DepthsAgree (joints s) (parents_of s) (partner m)
 
 abbrev pub FollowsKept : Type 0
 FollowsKept = (s m : List ℕ) → FollowKeeps s m

@@ -2,73 +2,69 @@
 ghost use Rattle.std.specs.Prelude.{◌<◌, ◌≤◌};
 ghost use Rattle.parents.specs.Claims.{Lower};
 
-use crate::plain::{NONE, climbed};
-use crate::{Case, DEPTHS, EVERY, Third, case_of, try_call};
-use reference::paired;
+use crate::counts::{Counts, Part};
+use crate::plain::{Parents, climbed};
+use crate::{Case, Third, try_call};
+use reference::{Matchings, NONE};
 use samples::{Sheet, Style, drawn_sheet};
-use tally::{add, compare};
+use std::io;
+use tally::add;
 
 // How many skeletons of n joints there are: n!.
-const SKELETONS: [u32; 7] = [1, 1, 2, 6, 24, 120, 720];
-
-// The joints from n on, for each n, as a number of 8 bits.
-const OTHERS: [u32; 7] = [255, 127, 63, 31, 15, 7, 3];
+const SKELETONS: [u16; 7] = [1, 1, 2, 6, 24, 120, 720];
 
 // Joint i has one of the i lower joints as its parent, or none: the digit of v to the base i + 1 says which.
-pub fn nth_parents(v: u32, n: usize) -> [u8; 8]
+pub fn nth_parents(v: u32, n: usize) -> Parents
     requires { n ≤ 8 }
     ensures { Lower result }
 {
     let mut parents = [NONE; 8];
     let mut rest = v as usize;
-    let mut i = 0;
-    while i < n {
+    for i in 0..n {
         let digit = rest % (i + 1);
-        rest = rest / (i + 1);
+        rest /= i + 1;
         if digit < i {
             parents[i] = digit as u8;
         }
-        i += 1;
     }
     parents
 }
 
-// One matching, if it pairs none but the first n joints.
-fn try_matching(counts: [u32; 40], case: Case, n: usize, m: [u8; 8]) -> [u32; 40]
+// Each matching that pairs none but the first n joints.
+fn try_matchings(
+    rt: &impl Print,
+    counts: &mut Counts,
+    rows: &Matchings,
+    case: &Case,
+    n: usize,
+) -> io::Result<()>
     requires { n < 7 }
 {
-    if paired(m) & OTHERS[n] != 0 {
-        return counts;
+    for m in rows {
+        if m[n..].iter().all(|p| *p == NONE) {
+            try_call(rt, counts, case, m, n, None)?;
+        }
     }
-    try_call(counts, case, m, n, 0)
-}
-
-fn try_matchings(counts: [u32; 40], rows: &[[u8; 8]; 764], case: Case, n: usize) -> [u32; 40]
-    requires { n < 7 }
-{
-    let mut sums = counts;
-    let mut r = 0;
-    while r < 764 {
-        let more = try_matching(sums, case, n, rows[r]);
-        sums = more;
-        r += 1;
-    }
-    sums
+    Ok(())
 }
 
 // The depth of each joint.
-fn try_depths(counts: [u32; 40], number: u32, parents: [u8; 8], n: usize) -> [u32; 40]
-    requires { (n ≤ 8) × Lower parents }
+fn try_depths(
+    rt: &impl Print,
+    counts: &mut Counts,
+    number: u32,
+    parents: &Parents,
+    n: usize,
+) -> io::Result<()>
+    requires { (n ≤ 8) × Lower parents.now }
 {
-    let mut sums = counts;
-    let mut joint = 0;
-    while joint < n {
-        let depth = parents::depth(&parents, joint);
-        let more = add(sums, DEPTHS, depth as u32);
-        sums = compare(more, 3, number, depth == climbed(&parents, joint));
-        joint += 1;
+    for joint in 0..n {
+        let depth = parents::depth(parents, joint);
+        add(&mut counts.depths, depth as u32);
+        let agrees = depth == climbed(parents, joint);
+        counts.comparisons.compare(rt, 3, number, agrees)?;
     }
-    sums
+    Ok(())
 }
 
 // A sheet of n joints that all list each other.
@@ -84,33 +80,33 @@ fn full_sheet(n: usize) -> Sheet
     drawn_sheet(n, 0, style)
 }
 
-// Skeleton v of n joints, if there are so many.
-fn try_skeleton(counts: [u32; 40], rows: &[[u8; 8]; 764], n: usize, v: u32) -> [u32; 40]
-    requires { (n < 7) × (v < 720) }
+// Skeleton v of n joints.
+fn try_skeleton(
+    rt: &impl Print,
+    counts: &mut Counts,
+    rows: &Matchings,
+    n: usize,
+    v: u16,
+) -> io::Result<()>
+    requires { n < 7 }
 {
-    if SKELETONS[n] <= v {
-        return counts;
-    }
-    let parents = nth_parents(v, n);
-    let number = 1000 * n as u32 + v;
+    let parents = nth_parents(u32::from(v), n);
+    let number = 1000 * n as u32 + u32::from(v);
     let third = Third {
-        parents: parents,
-        count: n,
+        parents,
+        count: n as u8,
         size: n + 1,
     };
-    let case = case_of(EVERY, number, full_sheet(n), third);
-    let sums = try_depths(counts, number, parents, n);
-    try_matchings(sums, rows, case, n)
+    let case = Case::new(Part::Every, number, &full_sheet(n), third);
+    try_depths(rt, counts, number, &parents, n)?;
+    try_matchings(rt, counts, rows, &case, n)
 }
 
-// All of them: as many places for each n as 6 joints have skeletons.
-pub fn try_every(counts: [u32; 40], rows: &[[u8; 8]; 764]) -> [u32; 40] {
-    let mut sums = counts;
-    let mut k = 0;
-    while k < 5040 {
-        let more = try_skeleton(sums, rows, k / 720, (k % 720) as u32);
-        sums = more;
-        k += 1;
+pub fn try_every(rt: &impl Print, counts: &mut Counts, rows: &Matchings) -> io::Result<()> {
+    for n in 0..7 {
+        for v in 0..SKELETONS[n] {
+            try_skeleton(rt, counts, rows, n, v)?;
+        }
     }
-    sums
+    Ok(())
 }

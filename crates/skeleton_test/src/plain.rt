@@ -1,126 +1,80 @@
 // Which pairs of up to 8 joints follow the skeleton, and how deep joints lie, straight from document 02: whether joints have parents comes
-// before which, pairs come by their lower joint, and the least of their numbers is taken. Parents and partners are 8 bytes, 255 for none.
+// before which, pairs come by their lower joint, and the least of their numbers is taken.
 ghost use Rattle.std.specs.Prelude.{◌<◌};
 
-use base::wide;
-use std::num::wrapping_add_u32;
+use reference::Pairing;
 
-// The byte of a root, and of an unpaired joint.
-pub const NONE: u8 = 255;
+// A byte for the parent of each joint, 255 for a root.
+pub type Parents = [u8; 8];
 
-// An answer: a refusal's number or one of two words, how many pairs do not follow, and the lowest of their numbers.
-#[derive(Clone, Copy)]
-pub struct Answer {
-    pub word: u32,
+// How many pairs do not follow, and the lowest of their numbers.
+#[derive(Clone, Copy, PartialEq, Eq)]
+pub struct Strays {
     pub pairs: u32,
     pub lowest: u32,
 }
 
-pub const ALL: u32 = 500;
-
-pub const ASTRAY: u32 = 501;
-
 // b × (b − 1) ÷ 2 for each b.
-const FIRST: [u32; 8] = [0, 0, 1, 3, 6, 10, 15, 21];
-
-// An answer without pairs.
-pub fn only(word: u32) -> Answer {
-    Answer {
-        word: word,
-        pairs: 0,
-        lowest: 0,
-    }
-}
+const FIRST: [u8; 8] = [0, 0, 1, 3, 6, 10, 15, 21];
 
 // Both joints are roots; or neither is, and their parents are paired together or are one joint.
-fn follows(parents: &[u8; 8], m: &[u8; 8], a: usize, b: usize) -> bool
+fn follows(parents: &Parents, m: &Pairing, a: usize, b: usize) -> bool
     requires { (a < 8) × (b < 8) }
 {
-    let p = wide(parents[a]);
-    let q = wide(parents[b]);
-    if 8 <= p {
-        return 8 <= q;
-    }
-    if 8 <= q {
-        return false;
-    }
-    if wide(m[q]) == p {
-        return true;
-    }
-    p == q
-}
-
-// Are a and b a pair, a below b, that does not follow?
-fn is_stray(parents: &[u8; 8], m: &[u8; 8], a: usize, b: usize) -> bool
-    requires { (a < 8) × (b < 8) }
-{
-    if b <= a {
-        return false;
-    }
-    if wide(m[a]) != b {
-        return false;
-    }
-    !follows(parents, m, a, b)
-}
-
-// With the pair of a and b more, which does not follow.
-fn with_stray(found: Answer, a: usize, b: usize) -> Answer
-    requires { (a < 8) × (b < 8) }
-{
-    let number = wrapping_add_u32(FIRST[b], a as u32);
-    let lowest = found.lowest;
-    let is_least = if found.pairs == 0 {
-        true
+    let p = usize::from(parents[a]);
+    let q = usize::from(parents[b]);
+    if p < 8 && q < 8 {
+        usize::from(m[q]) == p || p == q
     } else {
-        number < lowest
-    };
-    Answer {
-        word: ASTRAY,
-        pairs: wrapping_add_u32(found.pairs, 1),
-        lowest: if is_least { number } else { lowest },
+        8 <= p && 8 <= q
     }
 }
 
-// What is due for a matching.
-pub fn judged(parents: &[u8; 8], m: &[u8; 8]) -> Answer {
-    let mut found = only(ALL);
-    let mut k = 0;
-    while k < 64 {
-        if is_stray(parents, m, k / 8, k % 8) {
-            found = with_stray(found, k / 8, k % 8);
+// With the pair of this number more, which does not follow.
+fn with_stray(found: Option<Strays>, number: u32) -> Strays {
+    match found {
+        None => Strays {
+            pairs: 1,
+            lowest: number,
+        },
+        Some(strays) => Strays {
+            pairs: strays.pairs.wrapping_add(1),
+            lowest: strays.lowest.min(number),
+        },
+    }
+}
+
+// What is due for a matching: None where all pairs follow.
+pub fn judged(parents: &Parents, m: &Pairing) -> Option<Strays> {
+    let mut found = None;
+    for a in 0..8 {
+        for b in a + 1..8 {
+            if usize::from(m[a]) == b && !follows(parents, m, a, b) {
+                found = Some(with_stray(found, u32::from(FIRST[b]) + a as u32));
+            }
         }
-        k += 1;
     }
     found
 }
 
 // How many steps up it is from a joint to its root.
-pub fn climbed(parents: &[u8; 8], joint: usize) -> usize
+pub fn climbed(parents: &Parents, joint: usize) -> usize
     requires { joint < 8 }
 {
-    let mut above = wide(parents[joint]);
-    let mut steps = 0;
-    while steps < 8 {
-        if 8 <= above {
+    let mut above = parents[joint];
+    for steps in 0..8 {
+        let Some(parent) = parents.get(usize::from(above)) else {
             return steps;
-        }
-        above = wide(parents[above]);
-        steps += 1;
+        };
+        above = *parent;
     }
-    steps
+    8
 }
 
 // Have paired joints equal depth?
-pub fn are_level(parents: &[u8; 8], m: &[u8; 8]) -> bool {
-    let mut a = 0;
-    while a < 8 {
-        let p = wide(m[a]);
-        if p < 8 {
-            if climbed(parents, a) != climbed(parents, p) {
-                return false;
-            }
-        }
-        a += 1;
-    }
-    true
+pub fn are_level(parents: &Parents, m: &Pairing) -> bool {
+    (0..8).all(|a| {
+        let p = usize::from(m[a]);
+        8 <= p || climbed(parents, a) == climbed(parents, p)
+    })
 }

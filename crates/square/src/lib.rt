@@ -15,9 +15,7 @@ fn put_all(part: &[u8], m: usize, bands: &mut [[u8; 128]; 128])
     requires bands_value { bands.old ≡ blank }
     ensures { bands.new ≡ placed (entries_from m 0 part.now) }
 {
-    let mut j = m;
-    while 0 < j {
-        j -= 1;
+    for j in (0..m).rev() {
         let e = entry_in(part, j);
         let a = e.joint;
         let b = e.other;
@@ -38,15 +36,14 @@ fn put_returned(e: Entry, listed: &[[u8; 128]; 128], bands: &mut [[u8; 128]; 128
     }
 }
 
-// Puts those of m entries whose return is listed, from the last to the first, into a blank square.
+// Puts those of m entries whose return is listed, from the last to the first, into a blank square. With `put_all` no one function of a test:
+// its clause would have to say what each test tells, and be longer than this loop.
 fn put_mutual(part: &[u8], m: usize, listed: &[[u8; 128]; 128], bands: &mut [[u8; 128]; 128])
     requires inside { Inside m part.now }
     requires bands_value { bands.old ≡ blank }
     ensures { bands.new ≡ placed (only (λ (a b : ℕ). ltb 0 (at listed.now b a)) (entries_from m 0 part.now)) }
 {
-    let mut j = m;
-    while 0 < j {
-        j -= 1;
+    for j in (0..m).rev() {
         put_returned(entry_in(part, j), listed, bands);
     }
 }

@@ -1,69 +1,95 @@
--- The stage that a working w goes on in, or ends with, as the place r says beside the lists t.
-use mathlib.Core.Path.{◌≡◌, sym, ◌∙◌, ap}
-use mathlib.Core.Bool.{Bool, true, false}
+-- What a working g becomes: the stage that it goes on in, or ends with.
+use mathlib.Core.Path.{◌≡◌, refl, sym, ◌∙◌, ap, subst}
+use mathlib.Core.Bool.{true, false}
 use mathlib.Core.List.{List}
+use mathlib.Core.Logic.{◌≢◌}
 use Prim.Native.Nat.{ℕ, ◌≤◌, ◌<◌}
 use borrow.Author.Tests.{eq-eqb, ne_eqb}
 use Rattle.roommates.specs.declared.Stage.{Stage}
 use Rattle.roommates.specs.declared.Stage.TheVariants.{Proposing, Cutting, NoneOne, Paired}
+use Rattle.sheet.specs.Square.{SquarePromise}
 use Rattle.roommates.specs.Lists.{Square, row, list_length}
-use Rattle.roommates.specs.PhaseOne.{Work, work, phase_one, lowest_waiting, some_emptied}
+use Rattle.roommates.specs.PhaseOne.{Work, nobody, fresh, lowest_waiting, some_emptied}
 use Rattle.roommates.specs.PhaseTwo.{aside_of, longest_list}
-use Rattle.roommates.specs.Moves.{outcome, staged, with_aside, in_two, end_one, in_one, ruled}
+use Rattle.roommates.specs.Moves.{staged, in_two, end_one, in_one, ruled}
 use Rattle.roommates.proofs.Longest.{some_longer, none_longer}
-use Rattle.stages.specs.declared.Place.{Place}
-use Rattle.stages.specs.Places.{work_at, outcome_at, Ruled, Stands}
+use Rattle.roommates.specs.Runs.{Arrived}
+use Rattle.roommates.proofs.Arrivals.{begun_arrives}
+use Rattle.proposals.specs.declared.Progress.{Progress}
+use Rattle.stages.specs.declared.Task.{Task}
+use Rattle.stages.specs.declared.Working.{Working}
+use Rattle.stages.specs.Lawful.{Lawful}
+use Rattle.stages.specs.Workings.{work_of, Becomes}
 
--- a place that is a working knows the joint that the working's rule names
-pub ruled_as : (n : ℕ) (t : Square) {r : Place} {k : ℕ} {w : Work} → outcome_at t r ≡ outcome k w → r.next ≡ ruled n w → Ruled n t r
-ruled_as n t is names = names ∙ sym (ap (λ o. ruled n o.work_is) is)
+-- the same working by another name
+pub becomes_as : (g h : Working) {v w : Work} → v ≡ w → Becomes g v h → Becomes g w h
+becomes_as g h e s = (s.0, (s.1.0 ∙ e, s.1.1))
 
-module _ (n : ℕ) (t : Square) {r : Place} where
-  -- the same working by another name
-  stands_as : {v w : Work} → v ≡ w → Stands n t r v → Stands n t r w
-  stands_as e s = (s.0 ∙ ap (outcome 0) e, s.1)
+module _ (g h : Working) where
+  abbrev n : ℕ
+  n = g.task.joints.count
 
-  stands : {v w : Work} → v ≡ w → outcome_at t r ≡ outcome 0 v → r.next ≡ ruled n v → Stands n t r w
-  stands e is names = stands_as e (is, ruled_as n t is names)
+  abbrev w : Work
+  w = work_of g
 
-  module _ (w : Work) {x k : ℕ} (longest : x ≡ longest_list n w.lists) (long : k ≡ list_length n (row w.lists x)) where
-    pub two_ends : k < 2 → outcome_at t r ≡ outcome 0 (staged Paired w) → r.next ≡ n → Stands n t r (in_two n w)
+  -- h is g at another stage, in which the rule names x
+  abbrev pub At : Stage → ℕ → Type 0
+  At s x = h ≡ record g { stage = s; next = x }
+
+  pub stands : (s : Stage) {x : ℕ} → At s x → x ≡ ruled n (staged s w) → Becomes g (staged s w) h
+  stands s is names = rw is (refl, (refl, names))
+
+  pub ends_none : At NoneOne n → Becomes g (staged NoneOne w) h
+  unfolding ruled
+  ends_none is = stands NoneOne is refl
+
+  pub ends_paired : At Paired n → Becomes g (staged Paired w) h
+  unfolding ruled
+  ends_paired is = stands Paired is refl
+
+  module _ {x k : ℕ} (longest : x ≡ longest_list n g.lists) (long : k ≡ list_length n (row g.lists x)) where
+    pub two_ends : k < 2 → At Paired n → Becomes g (in_two n w) h
+    unfolding in_two
+    two_ends l is = becomes_as g h (rw (none_longer n g.lists longest long l) refl) (ends_paired is)
+
+    pub two_goes_on : 2 ≤ k → At Cutting x → Becomes g (in_two n w) h
     unfolding in_two ruled
-    two_ends h is names = stands (rw (none_longer n w.lists longest long h)) is names
+    two_goes_on l is = becomes_as g h (rw (some_longer n g.lists longest long l) refl) (stands Cutting is longest)
 
-    pub two_goes_on : 2 ≤ k → outcome_at t r ≡ outcome 0 (staged Cutting w) → r.next ≡ x → Stands n t r (in_two n w)
-    unfolding in_two ruled
-    two_goes_on h is names = stands (rw (some_longer n w.lists longest long h)) is (names ∙ longest)
+  pub one_none : some_emptied n w ≡ true → At NoneOne n → Becomes g (end_one g.task.whole n w) h
+  unfolding end_one
+  one_none some is = becomes_as g h (rw some refl) (ends_none is)
 
-  module _ (whole : Bool) (w : Work) where
-    pub one_none : some_emptied n w ≡ true → outcome_at t r ≡ outcome 0 (staged NoneOne w) → r.next ≡ n → Stands n t r (end_one whole n w)
-    unfolding end_one ruled
-    one_none h is names = stands (rw h) is names
+  pub one_lists : some_emptied n w ≡ false → g.task.whole ≡ false → At Paired n → Becomes g (end_one g.task.whole n w) h
+  unfolding end_one
+  one_lists none short is = becomes_as g h (rw (none, short) refl) (ends_paired is)
 
-    pub one_lists : some_emptied n w ≡ false → whole ≡ false → outcome_at t r ≡ outcome 0 (staged Paired w) → r.next ≡ n
-        → Stands n t r (end_one whole n w)
-    unfolding end_one ruled
-    one_lists h short is names = stands (rw (h, short)) is names
+  pub one_two : (a : List ℕ) → some_emptied n w ≡ false → g.task.whole ≡ true → a ≡ aside_of n g.lists
+      → Becomes (record g { aside = a }) (in_two n (work_of (record g { aside = a }))) h → Becomes g (end_one g.task.whole n w) h
+  unfolding end_one
+  one_two a none full e s = becomes_as g h (rw (none, full, ← e) refl) s
 
-    pub one_two : {a : List ℕ} {v : Work} → some_emptied n w ≡ false → whole ≡ true → a ≡ aside_of n w.lists → v ≡ with_aside a w
-        → Stands n t r (in_two n v) → Stands n t r (end_one whole n w)
-    unfolding end_one
-    one_two h full ea ev s = stands_as (rw (h, full, ← ea, ev)) s
+  module _ {low : ℕ} (is-low : low ≡ lowest_waiting n w) where
+    pub one_ends : low ≡ n → Becomes g (end_one g.task.whole n w) h → Becomes g (in_one g.task.whole n w) h
+    unfolding in_one
+    one_ends e s = becomes_as g h (rw (← is-low, eq-eqb _ _ e) refl) s
 
-    module _ {low : ℕ} (is-low : low ≡ lowest_waiting n w) where
-      pub one_ends : low ≡ n → Stands n t r (end_one whole n w) → Stands n t r (in_one whole n w)
-      unfolding in_one
-      one_ends h s = stands_as (rw (← is-low, eq-eqb _ _ h)) s
+    pub one_goes_on : low ≢ n → g.stage ≡ Proposing → At Proposing low → Becomes g (in_one g.task.whole n w) h
+    unfolding in_one ruled
+    one_goes_on d e is = becomes_as g h (ap (λ s. staged s w) (sym e) ∙ rw (← is-low, ne_eqb _ _ d) refl) (stands Proposing is is-low)
 
-      pub one_goes_on : (low ≡ n → ⊥) → w.stage ≡ Proposing → outcome_at t r ≡ outcome 0 (staged Proposing w) → r.next ≡ low
-          → Stands n t r (in_one whole n w)
-      unfolding in_one ruled
-      one_goes_on h e is names = stands (ap (λ s. staged s w) (sym e) ∙ (rw (← is-low, ne_eqb _ _ h))) is (names ∙ is-low)
+-- what a fresh working of lists that keep the reader's promise becomes may go on
+module _ (k : Task) (x : ℕ) (t : Square) (m : Progress) where
+  abbrev pub fresh_working : Working
+  fresh_working = record { task = k; stage = Proposing; next = x; lists = t; made = m; aside = nobody; cuts = 0 }
 
--- phase one at once: w is where it ended
-pub ran_on : (whole : Bool) (n : ℕ) (t u : Square) (g r : Place) {w : Work} → g.stage ≡ Proposing
-    → w ≡ phase_one n (work Proposing t g.reach g.received g.aside g.proposals g.cuts) → Stands n u r (in_one whole n w)
-    → Stands n u r (in_one whole n (phase_one n (work_at t g)))
-ran_on whole n t u g r h e s =
-    let begun = ap (λ (x : Stage). phase_one n (work x t g.reach g.received g.aside g.proposals g.cuts)) h in
-    (s.0 ∙ ap (λ (v : Work). outcome 0 (in_one whole n v)) (e ∙ sym begun), s.1)
+  pub begins : (h : Working) → m ≡ record { reach = nobody; received = nobody; proposals = 0 } → SquarePromise k.joints.count t
+      → Becomes fresh_working (in_one k.whole k.joints.count (work_of fresh_working)) h → Lawful h
+  begins h e promise s =
+      let is : work_of fresh_working ≡ fresh t = rw e refl in
+      let arrived = subst (Arrived k.whole k.joints.count t) (sym (s.1.0 ∙ ap (in_one k.whole k.joints.count) is)) begun_arrives in record {
+        start = t;
+        promise = subst (λ (k : Task). SquarePromise k.joints.count t) (sym s.0) promise;
+        arrived = subst (λ (k : Task). Arrived k.whole k.joints.count t (work_of h)) (sym s.0) arrived;
+        knows = s.1.1;
+      }

@@ -1,2 +1,3 @@
 -- What the code's contracts cite beside the definitions of the crate roommates.
-pub mod Places
+pub mod Workings
+pub mod Lawful

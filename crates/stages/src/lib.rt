@@ -1,160 +1,122 @@
-// Where a working stands, in code: its stage after a step or a cut, and the joint that the rule names. For the crates above, which prove
+// A working in code: its lists, its stage after a step or a cut, and the joint that the rule names. For the crates above, which prove
 // what they require.
 #![tactic(auto)]
 
 ghost use Rattle.std.specs.Prelude.{◌≡◌, ◌≤◌};
 ghost use Rattle.roommates.specs.declared.Stage.TheVariants.{Proposing};
-ghost use Rattle.roommates.specs.Lists.{Square};
 ghost use Rattle.roommates.specs.PhaseOne.{phase_one};
-ghost use Rattle.roommates.specs.Moves.{outcome, staged, with_aside, in_two, end_one, in_one, begun};
-ghost use Rattle.stages.specs.Places.{work_at, outcome_at, Stands};
+ghost use Rattle.roommates.specs.Moves.{in_two, end_one, in_one};
+ghost use Rattle.stages.specs.Workings.{work_of, Becomes, Begun};
+ghost use Rattle.stages.specs.Lawful.{Lawful};
+ghost use Rattle.sheet.specs.Square.{SquarePromise};
 
 use cuts::set_aside;
 use lists::rows::list_length;
-use proposals::{run_on, some_emptied};
+use proposals::{Progress, nothing_made, run_on, some_emptied};
 use roommates::Stage;
 use ruling::{longest_list, lowest_waiting};
+use sections::Joints;
 
-// Where a working stands, beside its lists. refusal: of the last choice, 0 for none; next: the joint that the rule names.
+// What is worked on: how many joints, and settle's working if `whole`, else shorten's. A flag, as C's call and the definitions have it.
 #[derive(Clone, Copy)]
-pub struct Place {
-    pub refusal: u8,
+pub struct Task {
+    pub joints: Joints,
+    pub whole: bool,
+}
+
+// next: the joint that the rule names, n where it names nobody; aside: 1 for a joint set aside, else 0. Numbers as the definitions have them.
+#[derive(Clone, Copy)]
+pub struct Working {
+    pub task: Task,
     pub stage: Stage,
     pub next: usize,
-    pub reach: [u8; 128],
-    pub received: [u8; 128],
+    pub lists: [[u8; 128]; 128],
+    pub made: Progress,
     pub aside: [u8; 128],
-    pub proposals: usize,
     pub cuts: usize,
 }
 
-// the choice is refused, with this number
-pub fn refuse(place: Place, k: u8) -> Place
-    ensures result_value { (t : Square) → outcome_at t result ≡ outcome k (work_at t place) }
-    ensures next_value { result.next ≡ place.next }
-{
-    let mut next = place;
-    next.refusal = k;
-    next
-}
-
-// another stage, in which the rule names this joint
-pub fn at_stage(stage: Stage, next: usize, place: Place) -> Place
-    ensures result_value { (t : Square) → outcome_at t result ≡ outcome 0 (staged stage (work_at t place)) }
-    ensures next_value { result.next ≡ next }
-{
-    let reach = place.reach;
-    let received = place.received;
-    let aside = place.aside;
-    Place {
-        refusal: 0,
-        stage,
-        next,
-        reach,
-        received,
-        aside,
-        proposals: place.proposals,
-        cuts: place.cuts,
+impl Working {
+    // Another stage, in which the rule names this joint.
+    fn stand(&mut self, stage: Stage, next: usize)
+        ensures { self.new ≡ record self.old { stage = stage; next = next } }
+    {
+        self.stage = stage;
+        self.next = next;
     }
-}
 
-// other joints set aside
-fn with_aside(aside: [u8; 128], place: Place) -> Place
-    ensures { (t : Square) → work_at t result ≡ with_aside aside (work_at t place) }
-{
-    let stage = place.stage;
-    let reach = place.reach;
-    let received = place.received;
-    Place {
-        refusal: place.refusal,
-        stage,
-        next: place.next,
-        reach,
-        received,
-        aside,
-        proposals: place.proposals,
-        cuts: place.cuts,
+    // The end: the rule names no joint.
+    pub fn end(&mut self, stage: Stage)
+        ensures { self.new ≡ record self.old { stage = stage; next = self.old.task.joints.count } }
+    {
+        self.stand(stage, self.task.joints.count);
     }
-}
 
-// Phase two runs while some list is longer than one: so while the longest is.
-pub fn in_two(n: usize, lists: &[[u8; 128]; 128], place: Place) -> Place
-    requires { n ≤ 128 }
-    ensures { Stands n lists.now result (in_two n (work_at lists.now place)) }
-{
-    let longest = longest_list(n, lists);
-    if list_length(n, &lists[longest]) < 2 {
-        return at_stage(Stage::Paired, n, place);
+    // Phase two runs while some list is longer than one: so while the longest is.
+    pub fn in_two(&mut self)
+        ensures { Becomes self.old (in_two self.old.task.joints.count (work_of self.old)) self.new }
+    {
+        let n = self.task.joints;
+        let longest = longest_list(n, &self.lists);
+        match list_length(n, &self.lists[longest]) {
+            0 | 1 => self.end(Stage::Paired),
+            _ => self.stand(Stage::Cutting, longest),
+        }
     }
-    at_stage(Stage::Cutting, longest, place)
-}
 
-// Phase one ends: none, shorten's lists, or phase two with joints set aside.
-fn end_one(n: usize, lists: &[[u8; 128]; 128], place: Place, whole: bool) -> Place
-    requires { n ≤ 128 }
-    ensures { Stands n lists.now result (end_one whole n (work_at lists.now place)) }
-{
-    let received = place.received;
-    if some_emptied(n, lists, &received) {
-        return at_stage(Stage::NoneOne, n, place);
+    // Phase one ends: none, shorten's lists, or phase two with joints set aside.
+    fn end_one(&mut self)
+        ensures { Becomes self.old (end_one self.old.task.whole self.old.task.joints.count (work_of self.old)) self.new }
+    {
+        let n = self.task.joints;
+        if some_emptied(n, &self.lists, &self.made.received) {
+            self.end(Stage::NoneOne);
+        } else if self.task.whole {
+            self.aside = set_aside(n, &self.lists);
+            self.in_two();
+        } else {
+            self.end(Stage::Paired);
+        }
     }
-    if whole {
-        return in_two(n, lists, with_aside(set_aside(n, lists), place));
+
+    // Phase one runs while somebody waits.
+    pub fn in_one(&mut self)
+        requires { self.old.stage ≡ Proposing }
+        ensures { Becomes self.old (in_one self.old.task.whole self.old.task.joints.count (work_of self.old)) self.new }
+    {
+        let n = self.task.joints;
+        let low = lowest_waiting(n, &self.lists, &self.made.reach);
+        if low == n.count {
+            self.end_one();
+        } else {
+            self.stand(Stage::Proposing, low);
+        }
     }
-    at_stage(Stage::Paired, n, place)
-}
 
-// Phase one runs while somebody waits.
-pub fn in_one(n: usize, lists: &[[u8; 128]; 128], place: Place, whole: bool) -> Place
-    requires { (n ≤ 128) × (place.stage ≡ Proposing) }
-    ensures { Stands n lists.now result (in_one whole n (work_at lists.now place)) }
-{
-    let reach = place.reach;
-    let low = lowest_waiting(n, lists, &reach);
-    if low == n {
-        return end_one(n, lists, place, whole);
+    // A working of these lists begins.
+    pub fn begin(joints: Joints, lists: &[[u8; 128]; 128], whole: bool) -> Working
+        ensures begun { Begun whole joints.count lists.now result }
+        ensures lawful { SquarePromise joints.count lists.now → Lawful result }
+    {
+        let mut begun = Working {
+            task: Task { joints, whole },
+            stage: Stage::Proposing,
+            next: joints.count,
+            lists: *lists,
+            made: nothing_made(),
+            aside: [0; 128],
+            cuts: 0,
+        };
+        begun.in_one();
+        begun
     }
-    at_stage(Stage::Proposing, low, place)
-}
 
-// A working of these lists begins, settle's if `whole`, else shorten's.
-pub fn begin(n: usize, lists: &[[u8; 128]; 128], whole: bool) -> Place
-    requires { n ≤ 128 }
-    ensures { Stands n lists.now result (begun whole n lists.now) }
-{
-    let nobody = [0u8; 128];
-    let place = Place {
-        refusal: 0,
-        stage: Stage::Proposing,
-        next: n,
-        reach: nobody,
-        received: nobody,
-        aside: nobody,
-        proposals: 0,
-        cuts: 0,
-    };
-    in_one(n, lists, place, whole)
-}
-
-// Phase one by the rule, to its end, at once.
-pub fn propose_on(n: usize, lists: &mut [[u8; 128]; 128], place: Place, whole: bool) -> Place
-    requires { (n ≤ 128) × ((place.proposals ≤ 65536) × (place.stage ≡ Proposing)) }
-    ensures { Stands n lists.new result (in_one whole n (phase_one n (work_at lists.old place))) }
-{
-    let mut reach = place.reach;
-    let mut received = place.received;
-    let mut proposals = place.proposals;
-    run_on(n, lists, &mut reach, &mut received, &mut proposals);
-    let aside = place.aside;
-    let quiet = Place {
-        refusal: 0,
-        stage: Stage::Proposing,
-        next: n,
-        reach,
-        received,
-        aside,
-        proposals,
-        cuts: place.cuts,
-    };
-    in_one(n, lists, quiet, whole)
+    // Phase one by the rule, to its end, at once.
+    pub fn propose_on(&mut self)
+        requires { (self.old.made.proposals ≤ 65536) × (self.old.stage ≡ Proposing) }
+        ensures { Becomes self.old (in_one self.old.task.whole self.old.task.joints.count (phase_one self.old.task.joints.count (work_of self.old))) self.new }
+    {
+        run_on(self.task.joints, &mut self.lists, &mut self.made);
+        self.in_one();
+    }
 }

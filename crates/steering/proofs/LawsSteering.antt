@@ -1,37 +1,41 @@
 -- One turn of the records' loop and of the rule's: how they go on, and how they stop.
-use mathlib.Core.Path.{◌≡◌, refl, sym, ◌∙◌, ap, subst}
+use mathlib.Core.Path.{◌≡◌, refl, sym, ◌∙◌, ap}
 use mathlib.Core.Bool.{Bool, true, false}
 use mathlib.Core.Logic.{◌≢◌, inl, inr}
 use mathlib.Core.List.{List, [], ◌∷◌}
-use Prim.Native.Nat.{ℕ, suc, ◌+◌, ◌*◌, ◌-◌, ◌%◌, ◌≤◌, ◌<◌}
+use Prim.Native.Nat.{ℕ, zero, suc, ◌+◌, ◌-◌, ◌/◌, ◌%◌, ◌≤◌, ◌<◌}
 use native.Mathlib.Omega.{arith}
 use native.Mathlib.Numerals.{add-one}
 use lib.ListN.{length, get_or, drop, length-drop}
 use lib.Seq.{drop-cons}
 use borrow.Author.Tests.{ne_eqb, eq-eqb}
+use Rattle.std.proofs.Common.{Option, Result, Ok, Err, IsOk, rules}
+use Rattle.std.specs.Simd.{first_chunks}
 use Rattle.base.proofs.Cases.{case}
 use Rattle.base.proofs.Tests.{never}
-use Rattle.sheet.specs.Square.{SquarePromise}
+use Rattle.refusals.specs.declared.Refusal.{Refusal}
+use Rattle.refusals.specs.Numbers.{fault_in}
+use Rattle.refusals.proofs.Numbers.{number_some}
 use Rattle.roommates.specs.declared.Stage.{Stage}
 use Rattle.roommates.specs.declared.Stage.TheVariants.{Proposing, Cutting, NoneOne, NoneTwo, Paired}
 use Rattle.roommates.specs.Lists.{Square}
 use Rattle.roommates.specs.PhaseOne.{Work, phase_one}
-use Rattle.roommates.specs.Moves.{in_one, begun, Outcome, outcome, move, ruled, concluded, turns, carried_out}
-use Rattle.roommates.specs.Runs.{Arrived}
+use Rattle.roommates.specs.Moves.{in_one, Outcome, outcome, move, ruled, concluded, turns, carried_out}
 use Rattle.roommates.proofs.Sound.{promise_sound}
 use Rattle.roommates.proofs.Stages.{Over}
-use Rattle.roommates.proofs.Arrivals.{begun_arrives}
 use Rattle.roommates.proofs.WorkingsEnd.{rule_moves, stays}
 use Rattle.roommates.proofs.RuleInOne.{phase_one_at_once, at_once_arrives}
 use Rattle.records.specs.declared.Record.{Record}
 use Rattle.records.specs.Records.{record_of, records_of, acts, follows, started, worked_by}
 use Rattle.records.specs.Records as R
-use Rattle.stages.specs.declared.Place.{Place}
-use Rattle.stages.specs.Places.{work_at, outcome_at, Stands}
-use Rattle.moves.specs.Lawful.{Lawful}
-use Rattle.marks.specs.declared.MarkedPlace.{MarkedPlace}
-use Rattle.acting.specs.Marks.{marks_at, marked_at, acted_at, AllLawful}
-use Rattle.steering.specs.Ends.{is_over, is_proposing}
+use Rattle.stages.specs.declared.Task.{Task}
+use Rattle.stages.specs.declared.Working.{Working}
+use Rattle.stages.specs.Workings.{work_of, Becomes, Begun}
+use Rattle.stages.specs.Lawful.{Lawful}
+use Rattle.moves.specs.Moved.{Moved}
+use Rattle.moves.proofs.LawsLawful.{lawful_at}
+use Rattle.acting.specs.Marks.{marked_at}
+use Rattle.steering.specs.Ends.{is_over, records_in, ended, followed}
 
 over_said : (s : Stage) → is_over s ≡ true → Over s
 over_said Proposing h = absurd (never _ h refl)
@@ -46,136 +50,112 @@ said_over s h over =
     (λ e. never _ (ap is_over e) h)
     (λ over. case over (λ e. never _ (ap is_over e) h) (λ e. never _ (ap is_over e) h))
 
-pub one_said : (s : Stage) → is_proposing s ≡ true → s ≡ Proposing
-one_said Proposing h = refl
-one_said Cutting h = absurd (never _ h refl)
-one_said NoneOne h = absurd (never _ h refl)
-one_said NoneTwo h = absurd (never _ h refl)
-one_said Paired h = absurd (never _ h refl)
-
 rule_more : (whole : Bool) (n f : ℕ) (w : Work) → concluded (suc f) whole n w ≡ concluded f whole n (move whole n w (ruled n w)).work_is
 unfolding concluded
 rule_more whole n f w = refl
 
--- THE RECORDS: the i-th, and those after it
-abbrev record_at : List ℕ → ℕ → Record
-record_at cs i = record_of (get_or cs (2 * i) 0) (get_or cs (2 * i + 1) 0)
+-- not refused
+pub no_fault : (r : Result Unit Refusal) → fault_in r ≡ 0 → IsOk r
+no_fault (Ok v) e = search rules
+no_fault (Err r) e = absurd (omega (arith, number_some r))
 
-records_from : (cs : List ℕ) (i : ℕ) → 2 * i + 1 < length cs → records_of (drop (2 * i) cs) ≡ record_at cs i ∷ records_of (drop (2 * (i + 1)) cs)
-unfolding records_of
-records_from cs i l =
-    let next : 2 * (i + 1) ≡ suc (suc (2 * i)) = omega arith in
-    rw (drop-cons cs (2 * i) 0 (omega arith), drop-cons cs (suc (2 * i)) 0 (omega arith), next, add-one (2 * i)) refl
+-- THE RECORDS, two bytes each
+pub records_in_bytes : (k : ℕ) (bytes : List ℕ) → k ≡ length bytes / 2 → records_in (first_chunks 2 k bytes) ≡ records_of bytes
+unfolding records_in records_of
+records_in_bytes zero [] e = refl
+records_in_bytes zero (x ∷ []) e = refl
+records_in_bytes zero (x ∷ (y ∷ bytes)) e = absurd (omega arith)
+records_in_bytes (suc k) [] e = absurd (omega arith)
+records_in_bytes (suc k) (x ∷ []) e = absurd (omega arith)
+records_in_bytes (suc k) (x ∷ (y ∷ bytes)) e = ap (λ rs. record_of x y ∷ rs) (records_in_bytes k bytes (omega arith))
 
--- the i-th record acts on s, and all that follow on what it leaves, which is h
-module _ (whole : Bool) (n : ℕ) (cs : List ℕ) (i : ℕ) (l : 2 * i + 1 < length cs) (s : R.Marked) (u : Square) (saved : List Square) (h : MarkedPlace)
-    (e : acted_at u saved h ≡ acts whole n s (record_at cs i)) where
-  pub followed_on : h.place.refusal ≡ 0
-      → follows whole n (marked_at u saved h) (records_of (drop (2 * (i + 1)) cs)) ≡ follows whole n s (records_of (drop (2 * i) cs))
+pub none_in : (records : List (List ℕ)) → length records ≡ 0 → (g : Working) (s : R.Marked) → outcome 0 s.working ≡ followed g s records
+unfolding records_in follows
+none_in [] e g s = refl
+none_in (r ∷ records) e g s = absurd (omega arith)
+
+pub none_left : (records : List (List ℕ)) (i : ℕ) → length records ≤ i → (g : Working) (s : R.Marked) → outcome 0 s.working ≡ followed g s (drop i records)
+none_left records i l g s = none_in (drop i records) (omega (arith, length-drop i records)) g s
+
+-- record i acts on s, and all that follow on what it leaves
+module _ (g h : Working) (marks after : List (Option Working)) (records : List (List ℕ)) (i : ℕ) (l : i < length records) where
+  abbrev met : Record
+  met = record_of (get_or (get_or records i []) 0 0) (get_or (get_or records i []) 1 0)
+
+  cut_off : records_in (drop i records) ≡ met ∷ records_in (drop (i + 1) records)
+  unfolding records_in
+  cut_off = rw (drop-cons records i [] l, add-one i) refl
+
+  -- it acts
+  pub stops_at : (k : ℕ) → k ≢ 0 → R.acted k (marked_at h after) ≡ acts g.task.whole g.task.joints.count (marked_at g marks) met
+      → outcome k (work_of h) ≡ followed g (marked_at g marks) (drop i records)
   unfolding follows
-  followed_on z = rw (records_from cs i l, ← e, z) refl
+  stops_at k d e = rw (cut_off, ← e, ne_eqb k 0 d) refl
 
-  pub followed_stops : h.place.refusal ≢ 0 → outcome_at u h.place ≡ follows whole n s (records_of (drop (2 * i) cs))
+  pub goes_on : h.task ≡ g.task → R.acted 0 (marked_at h after) ≡ acts g.task.whole g.task.joints.count (marked_at g marks) met
+      → followed h (marked_at h after) (drop (i + 1) records) ≡ followed g (marked_at g marks) (drop i records)
   unfolding follows
-  followed_stops d = rw (records_from cs i l, ← e, ne_eqb h.place.refusal 0 d) refl
+  goes_on task e =
+      ap (λ (k : Task). follows k.whole k.joints.count (marked_at h after) (records_in (drop (i + 1) records))) task
+      ∙ rw (cut_off, ← e) refl
 
--- .. of the first working under another name
-pub from_first : (whole : Bool) (n : ℕ) {s s' : R.Marked} (rs : List Record) → s ≡ s' → {o : Outcome} → o ≡ follows whole n s rs → o ≡ follows whole n s' rs
-from_first whole n rs e h = h ∙ ap (λ s. follows whole n s rs) e
-
--- where no two bytes are left
-no_records : (l : List ℕ) → length l ≤ 1 → records_of l ≡ []
-unfolding records_of
-no_records [] h = refl
-no_records (k ∷ []) h = refl
-no_records (k ∷ (x ∷ l)) h = absurd (omega arith)
-
-followed_none : (whole : Bool) (n : ℕ) (t : Square) (g : Place) (marks : ℕ → R.Mark) → g.refusal ≡ 0 → (l : List ℕ) → length l ≤ 1
-    → outcome_at t g ≡ follows whole n (R.marked (work_at t g) marks) (records_of l)
-unfolding follows
-followed_none whole n t g marks z l few = rw (no_records l few, z) refl
-
-pub none_to_follow : {whole : Bool} {n : ℕ} {t : Square} {g : Place} → Lawful whole n t g → (cs : List ℕ) → length cs < 2
-    → outcome_at t g ≡ follows whole n (R.marked (work_at t g) R.unmarked) (records_of cs)
-none_to_follow {whole} {n} {t} {g} s cs few = followed_none whole n t g R.unmarked s.unrefused cs (omega arith)
-
-pub followed_all : {whole : Bool} {n : ℕ} {t : Square} {saved : List Square} {h : MarkedPlace} → AllLawful whole n t saved h → (cs : List ℕ) (i : ℕ)
-    → length cs ≤ 2 * i + 1 → outcome_at t h.place ≡ follows whole n (marked_at t saved h) (records_of (drop (2 * i) cs))
-followed_all {whole} {n} {t} {saved} {h} all cs i l =
-    followed_none whole n t h.place (marks_at saved h.marks) all.lawful.unrefused (drop (2 * i) cs) (omega (arith, length-drop (2 * i) cs))
-
-module _ {whole : Bool} {n : ℕ} {t : Square} {g : Place} (s : Lawful whole n t g) where
+module _ {g : Working} (s : Lawful g) where
   -- PHASE ONE AT ONCE
-  module _ (one : is_proposing g.stage ≡ true) {u : Square} (h : Place) (e : Stands n u h (in_one whole n (phase_one n (work_at t g)))) where
-    pub lawful_past : Lawful whole n u h
-    lawful_past = record {
-      start = s.start;
-      promise = s.promise;
-      arrived =
-          subst (Arrived whole n s.start) (sym (ap (λ (o : Outcome). o.work_is) e.0))
-          (at_once_arrives (promise_sound s.promise) s.arrived (one_said g.stage one));
-      unrefused = ap (λ (o : Outcome). o.refusal) e.0;
-      knows = e.1;
-    }
+  module _ (one : g.stage ≡ Proposing) (h : Working) (e : Becomes g (in_one g.task.whole g.task.joints.count (phase_one g.task.joints.count (work_of g))) h) where
+    pub lawful_past : Lawful h
+    lawful_past = lawful_at s e.0 e.1.0 e.1.1 (at_once_arrives (promise_sound s.promise) s.arrived one)
 
-    pub concluded_past : concluded (turns n) whole n (work_at u h) ≡ concluded (turns n) whole n (work_at t g)
-    concluded_past =
-        ap (λ (o : Outcome). concluded (turns n) whole n o.work_is) e.0
-        ∙ sym (phase_one_at_once (promise_sound s.promise) s.arrived (one_said g.stage one))
+    pub ended_past : ended (turns h.task.joints.count) h ≡ ended (turns g.task.joints.count) g
+    ended_past =
+        ap (λ (k : Task). concluded (turns k.joints.count) k.whole k.joints.count (work_of h)) e.0
+        ∙ ap (concluded (turns g.task.joints.count) g.task.whole g.task.joints.count) e.1.0
+        ∙ sym (phase_one_at_once (promise_sound s.promise) s.arrived one)
 
   -- THE RULE
-  pub rule_ends : (f : ℕ) → is_over g.stage ≡ true → outcome_at t g ≡ outcome 0 (concluded f whole n (work_at t g))
-  rule_ends f h = rw (stays whole n f (work_at t g) (over_said g.stage h), s.unrefused) refl
+  pub rule_ends : (f : ℕ) → is_over g.stage ≡ true → work_of g ≡ ended f g
+  rule_ends f over = sym (stays g.task.whole g.task.joints.count f (work_of g) (over_said g.stage over))
 
-  pub rule_spent : (f i : ℕ) → f ≤ i → outcome_at t g ≡ outcome 0 (concluded (f - i) whole n (work_at t g))
+  pub rule_spent : (f i : ℕ) → f ≤ i → work_of g ≡ ended (f - i) g
   unfolding concluded
-  rule_spent f i l = let z : f - i ≡ 0 = omega arith in rw (z, s.unrefused) refl
+  rule_spent f i l = let z : f - i ≡ 0 = omega arith in rw z refl
 
-  module _ {u : Square} (h : Place) (e : outcome_at u h ≡ move whole n (work_at t g) g.next) where
-    pub rule_unrefused : is_over g.stage ≡ false → h.refusal ≡ 0
+  module _ (h : Working) (r : Result Unit Refusal) (m : Moved g.next g h r) where
+    pub rule_unrefused : is_over g.stage ≡ false → fault_in r ≡ 0
     rule_unrefused live =
-        case (rule_moves whole n s.arrived)
+        case (rule_moves g.task.whole g.task.joints.count s.arrived)
         (λ over. absurd (said_over g.stage live over))
-        (λ m. ap (λ (o : Outcome). o.refusal) e ∙ (ap (λ x. (move whole n (work_at t g) x).refusal) s.knows ∙ m.0))
+        (λ o. ap (λ (o : Outcome). o.refusal) m.1.0 ∙ (ap (λ x. (move g.task.whole g.task.joints.count (work_of g) x).refusal) s.knows ∙ o.0))
 
-    pub rule_on : (f i : ℕ) → i < f → concluded (f - (i + 1)) whole n (work_at u h) ≡ concluded (f - i) whole n (work_at t g)
+    pub rule_on : (f i : ℕ) → i < f → ended (f - (i + 1)) h ≡ ended (f - i) g
     rule_on f i l =
         let k : f - i ≡ suc (f - (i + 1)) = omega arith in
-        let m : work_at u h ≡ (move whole n (work_at t g) (ruled n (work_at t g))).work_is
-        = ap (λ (o : Outcome). o.work_is) e ∙ ap (λ x. (move whole n (work_at t g) x).work_is) s.knows in
-        ap (concluded (f - (i + 1)) whole n) m ∙ sym (ap (λ j. concluded j whole n (work_at t g)) k ∙ rule_more whole n (f - (i + 1)) (work_at t g))
+        let w : work_of h ≡ (move g.task.whole g.task.joints.count (work_of g) (ruled g.task.joints.count (work_of g))).work_is
+        = ap (λ (o : Outcome). o.work_is) m.1.0 ∙ ap (λ x. (move g.task.whole g.task.joints.count (work_of g) x).work_is) s.knows in
+        ap (λ (k : Task). concluded (f - (i + 1)) k.whole k.joints.count (work_of h)) m.0
+        ∙ ap (concluded (f - (i + 1)) g.task.whole g.task.joints.count) w
+        ∙ sym (ap (λ j. ended j g) k ∙ rule_more g.task.whole g.task.joints.count (f - (i + 1)) (work_of g))
 
--- A WORKING begins, and ends by its choices or by the rule.
-pub begins : {whole : Bool} {n : ℕ} {t : Square} {g : Place} → SquarePromise n t → Stands n t g (begun whole n t) → Lawful whole n t g
-begins {whole} {n} {t} {g} promise h = record {
-  start = t;
-  promise = promise;
-  arrived = subst (Arrived whole n t) (sym (ap (λ (o : Outcome). o.work_is) h.0)) begun_arrives;
-  unrefused = ap (λ (o : Outcome). o.refusal) h.0;
-  knows = h.1;
-}
-
-module _ (whole : Bool) (n : ℕ) (t : Square) (cs : List ℕ) (g : Place) (b : Stands n t g (begun whole n t)) where
-  begun_is : work_at t g ≡ begun whole n t
-  begun_is = ap (λ (o : Outcome). o.work_is) b.0
-
-  -- an odd number of bytes
-  pub worked_odd : (h : Place) → length cs % 2 ≢ 0 → outcome_at t h ≡ outcome 14 (work_at t g) → outcome_at t h ≡ worked_by whole n t cs
+-- A WHOLE WORKING, which has begun as g
+module _ (whole : Bool) (n : ℕ) (t : Square) (g : Working) (b : Begun whole n t g) (cs : List ℕ) where
+  pub odd_so : length cs % 2 ≢ 0 → outcome 14 (work_of g) ≡ worked_by whole n t cs
   unfolding worked_by
-  worked_odd h d e = rw (ne_eqb (length cs % 2) 0 d) (e ∙ ap (outcome 14) begun_is)
+  odd_so d = rw (ne_eqb (length cs % 2) 0 d) (ap (outcome 14) b.1.1)
 
-  module _ (even : length cs % 2 ≡ 0) (h : Place) {u : Square}
-      (f : outcome_at u h ≡ follows whole n (R.marked (work_at t g) R.unmarked) (records_of cs)) where
-    by_records : worked_by whole n t cs ≡ carried_out whole n (outcome_at u h)
+  module _ (even : length cs % 2 ≡ 0) (records : List (List ℕ)) (are : records_in records ≡ records_of cs) where
+    by_records : {o : Outcome} → o ≡ followed g (R.marked (work_of g) R.unmarked) records → worked_by whole n t cs ≡ carried_out whole n o
     unfolding worked_by
-    by_records =
-        let g : follows whole n (started whole n t) (records_of cs) ≡ outcome_at u h
-        = ap (λ (w : Work). follows whole n (R.marked w R.unmarked) (records_of cs)) (sym begun_is) ∙ sym f in
-        rw (eq-eqb (length cs % 2) 0 even) (ap (carried_out whole n) g)
+    by_records {o} is =
+        let e : follows whole n (started whole n t) (records_of cs) ≡ o
+        = ap (λ (w : Work). follows whole n (R.marked w R.unmarked) (records_of cs)) (sym b.1.1) ∙ rw (← are, ← b.0, ← b.1.0) (sym is) in
+        rw (eq-eqb (length cs % 2) 0 even) (ap (carried_out whole n) e)
 
-    pub worked_refused : h.refusal ≢ 0 → outcome_at u h ≡ worked_by whole n t cs
-    worked_refused d = rw (by_records, ne_eqb h.refusal 0 d) refl
+    pub refused_so : (h : Working) (k : ℕ) → k ≢ 0 → outcome k (work_of h) ≡ followed g (R.marked (work_of g) R.unmarked) records
+        → outcome k (work_of h) ≡ worked_by whole n t cs
+    refused_so h k d is = rw (by_records is, ne_eqb k 0 d) refl
 
-    pub worked_out : {v : Square} (k : Place) → h.refusal ≡ 0 → outcome_at v k ≡ outcome 0 (concluded (turns n) whole n (work_at u h))
-        → outcome_at v k ≡ worked_by whole n t cs
-    worked_out k z e = rw (by_records, z) e
+    pub ended_so : (h l : Working) → outcome 0 (work_of h) ≡ followed g (R.marked (work_of g) R.unmarked) records → h.task ≡ g.task
+        → work_of l ≡ ended (turns h.task.joints.count) h → outcome 0 (work_of l) ≡ worked_by whole n t cs
+    ended_so h l is task e =
+        let at : ended (turns h.task.joints.count) h ≡ concluded (turns n) whole n (work_of h)
+        = ap (λ (k : Task). concluded (turns k.joints.count) k.whole k.joints.count (work_of h)) task ∙ rw (b.0, b.1.0) refl in
+        rw (by_records is) (ap (outcome 0) (e ∙ at))

@@ -1,7 +1,13 @@
--- What the loops ask of a stage.
-use Rattle.std.specs.Prelude.{Bool, true, false}
+-- What the loops ask of a stage, and go by.
+use Rattle.std.specs.Prelude.{Bool, true, false, List, [], ◌∷◌, ℕ, get_or}
 use Rattle.roommates.specs.declared.Stage.{Stage}
 use Rattle.roommates.specs.declared.Stage.TheVariants.{Proposing, Cutting, NoneOne, NoneTwo, Paired}
+use Rattle.records.specs.declared.Record.{Record}
+use Rattle.roommates.specs.PhaseOne.{Work}
+use Rattle.roommates.specs.Moves.{Outcome, concluded}
+use Rattle.records.specs.Records.{record_of, Marked, follows}
+use Rattle.stages.specs.declared.Working.{Working}
+use Rattle.stages.specs.Workings.{work_of}
 
 -- has a working ended?
 abbrev pub is_over : Stage → Bool
@@ -11,10 +17,14 @@ is_over NoneOne = true
 is_over NoneTwo = true
 is_over Paired = true
 
--- is it in phase one?
-abbrev pub is_proposing : Stage → Bool
-is_proposing Proposing = true
-is_proposing Cutting = false
-is_proposing NoneOne = false
-is_proposing NoneTwo = false
-is_proposing Paired = false
+-- the records of pairs of bytes
+unfoldable pub records_in : List (List ℕ) → List Record
+records_in [] = []
+records_in (r ∷ rs) = record_of (get_or r 0 0) (get_or r 1 0) ∷ records_in rs
+
+-- what becomes of a working's task: by the rule's moves, f of them, and by records from s on
+abbrev pub ended : ℕ → Working → Work
+ended f g = concluded f g.task.whole g.task.joints.count (work_of g)
+
+abbrev pub followed : Working → Marked → List (List ℕ) → Outcome
+followed g s records = follows g.task.whole g.task.joints.count s (records_in records)

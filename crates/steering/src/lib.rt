@@ -1,127 +1,86 @@
 // Whole workings: the records of the choices, then the rule's moves to the end. For the crates above, which prove what they require.
 #![tactic(auto)]
 
-ghost use Rattle.std.specs.Prelude.{◌≡◌};
-ghost use Rattle.sheet.specs.Square.{SquarePromise};
-ghost use Rattle.roommates.specs.Moves.{outcome, concluded, turns};
-ghost use Rattle.records.specs.Records.{records_of, marked, unmarked, follows, worked_by};
-ghost use Rattle.stages.specs.Places.{work_at, outcome_at};
-ghost use Rattle.moves.specs.Lawful.{Lawful};
-ghost use Rattle.steering.specs.Ends.{is_over, is_proposing};
+ghost use Rattle.std.specs.Prelude.{◌≡◌, Bool, ℕ};
+ghost use Rattle.refusals.specs.Numbers.{fault_in};
+ghost use Rattle.roommates.specs.Lists.{Square};
+ghost use Rattle.roommates.specs.Moves.{outcome, turns};
+ghost use Rattle.records.specs.Records.{marked, unmarked, worked_by};
+ghost use Rattle.stages.specs.Workings.{work_of, Begun};
+ghost use Rattle.stages.specs.Lawful.{Lawful};
+ghost use Rattle.steering.specs.Ends.{is_over, ended, followed};
 
-use acting::{act, begin_marks};
+use acting::act;
 use moves::make_move;
 use records::Record;
+use refusals::Refusal;
 use roommates::Stage;
-use stages::{Place, begin, propose_on, refuse};
+use stages::Working;
 
 fn is_over(stage: Stage) -> bool
     ensures { result ≡ is_over stage }
 {
-    match stage {
-        Stage::Proposing => false,
-        Stage::Cutting => false,
-        Stage::NoneOne => true,
-        Stage::NoneTwo => true,
-        Stage::Paired => true,
-    }
+    matches!(stage, Stage::NoneOne | Stage::NoneTwo | Stage::Paired)
 }
 
-// The records, up to the first that is refused. What the marks save stands here; where there is no record nothing is cleared for it.
-fn follow(
-    n: usize,
-    lists: &mut [[u8; 128]; 128],
-    place: Place,
-    choices: &[u8],
-    whole: bool,
-) -> Place
-    requires { Lawful whole n lists.old place }
-    ensures result_after { outcome_at lists.new result ≡ follows whole n (marked (work_at lists.old place) unmarked) (records_of choices.now) }
-    ensures lawful { result.refusal ≡ 0 → Lawful whole n lists.new result }
+// The records, up to the first that is refused. Where there is none nothing is cleared for the marks.
+fn follow(working: &mut Working, records: &[[u8; 2]]) -> Result<(), Refusal>
+    requires { Lawful working.old }
+    ensures followed { outcome (fault_in result) (work_of working.new)
+        ≡ followed working.old (marked (work_of working.old) unmarked) records.now }
+    ensures task { working.new.task ≡ working.old.task }
+    ensures lawful { Lawful working.new }
 {
-    if choices.len() < 2 {
-        return place;
+    if records.is_empty() {
+        return Ok(());
     }
-    let mut saved = [[[0u8; 128]; 128]; 8];
-    let mut state = begin_marks(place);
-    let count = choices.len() / 2;
-    let mut i = 0;
-    while i < count {
-        let kind = choices[2 * i];
-        let number = choices[2 * i + 1];
-        state = act(n, lists, &mut saved, state, Record { kind, number }, whole);
-        let next = state.place;
-        if next.refusal != 0 {
-            return next;
-        }
-        i += 1;
+    let mut marks = [None; 8];
+    for record in records {
+        let record = Record {
+            kind: record[0],
+            number: record[1],
+        };
+        act(record, working, &mut marks)?;
     }
-    state.place
+    Ok(())
 }
 
 // The rule's moves, one by one, to the end.
-fn go_on(n: usize, lists: &mut [[u8; 128]; 128], place: Place, whole: bool) -> Place
-    requires { Lawful whole n lists.old place }
-    ensures { outcome_at lists.new result ≡ outcome 0 (concluded (turns n) whole n (work_at lists.old place)) }
+fn go_on(working: &mut Working)
+    requires { Lawful working.old }
+    ensures { work_of working.new ≡ ended (turns working.old.task.joints.count) working.old }
 {
-    let most = n * n + n * n + 1;
-    let mut next = place;
-    let mut i = 0;
-    while i < most {
-        let stage = next.stage;
-        if is_over(stage) {
-            return next;
+    let n = working.task.joints.count;
+    for _ in 0..n * n + n * n + 1 {
+        if is_over(working.stage) {
+            return;
         }
-        next = make_move(n, lists, next, next.next, whole);
-        i += 1;
-    }
-    next
-}
-
-fn is_proposing(stage: Stage) -> bool
-    ensures { result ≡ is_proposing stage }
-{
-    match stage {
-        Stage::Proposing => true,
-        Stage::Cutting => false,
-        Stage::NoneOne => false,
-        Stage::NoneTwo => false,
-        Stage::Paired => false,
+        make_move(working, working.next).unwrap();
     }
 }
 
-// The rule's moves, to the end; those of phase one at once, so that they copy no place.
-fn conclude(n: usize, lists: &mut [[u8; 128]; 128], place: Place, whole: bool) -> Place
-    requires { Lawful whole n lists.old place }
-    ensures { outcome_at lists.new result ≡ outcome 0 (concluded (turns n) whole n (work_at lists.old place)) }
+// The rule's moves, to the end; those of phase one at once, without a look at the stage before each.
+fn conclude(working: &mut Working)
+    requires { Lawful working.old }
+    ensures { work_of working.new ≡ ended (turns working.old.task.joints.count) working.old }
 {
-    let stage = place.stage;
-    if !is_proposing(stage) {
-        return go_on(n, lists, place, whole);
+    if working.stage == Stage::Proposing {
+        working.propose_on();
     }
-    let next = propose_on(n, lists, place, whole);
-    go_on(n, lists, next, whole)
+    go_on(working);
 }
 
-// The working of n joints' lists, settle's if `whole`, else shorten's: where it ends, and the lists left there.
-pub fn working(
-    n: usize,
-    bands: [[u8; 128]; 128],
-    choices: &[u8],
-    whole: bool,
-    left: &mut [[u8; 128]; 128],
-) -> Place
-    requires { SquarePromise n bands }
-    ensures { outcome_at left.new result ≡ worked_by whole n bands choices.now }
+// The choices steer a working that has begun, and unless one is refused the rule then ends it. A refused choice leaves it as it stood.
+pub fn steer(working: &mut Working, choices: &[u8]) -> Result<(), Refusal>
+    requires { Lawful working.old }
+    ensures { (whole : Bool) (n : ℕ) (t : Square) → Begun whole n t working.old
+        → outcome (fault_in result) (work_of working.new) ≡ worked_by whole n t choices.now }
 {
-    *left = bands;
-    let first = begin(n, left, whole);
-    if choices.len() % 2 != 0 {
-        return refuse(first, 14);
+    let (records, rest) = choices.as_chunks::<2>();
+    if !rest.is_empty() {
+        return Err(Refusal::BadRecord);
     }
-    let chosen = follow(n, left, first, choices, whole);
-    if chosen.refusal != 0 {
-        return chosen;
-    }
-    conclude(n, left, chosen, whole)
+    follow(working, records)?;
+    conclude(working);
+    Ok(())
 }

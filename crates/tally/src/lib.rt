@@ -1,60 +1,44 @@
-// The counts of a test program, each at a place of one array, and the text that they are printed in.
+// The comparisons of a test program, and its sums.
 #![tactic(auto)]
 
-const STDOUT: i32 = 1;
+use std::{fmt, io};
 
-// Comparisons that agreed, and those that did not.
-pub const AGREE: usize = 0;
-
-pub const DIFFER: usize = 1;
-
-pub fn add(counts: [u32; 40], k: usize, by: u32) -> [u32; 40] {
-    let mut sums = counts;
-    if k < 40 {
-        sums[k] = std::num::wrapping_add_u32(sums[k], by);
-    }
-    sums
+// How many comparisons agreed, and how many did not.
+#[derive(Clone, Copy, Default)]
+pub struct Comparisons {
+    agree: u32,
+    differ: u32,
 }
 
-fn long(count: u32) -> u64 {
-    count as u64
-}
-
-fn print_byte(byte: u8) {
-    io::write_all(STDOUT, &[byte]);
-}
-
-// Prints a byte of a text, or the count at place k for a '#'. Returns the place of the next count.
-fn print_piece(byte: u8, counts: &[u32; 40], k: usize) -> usize {
-    if byte != b'#' {
-        print_byte(byte);
-        return k;
-    }
-    if 40 <= k {
-        return k;
-    }
-    io::print_decimal(STDOUT, long(counts[k]));
-    k + 1
-}
-
-// Prints a text, with the counts in turn for its '#'.
-pub fn print(text: &[u8], counts: &[u32; 40]) {
-    let mut k = 0;
-    let mut i = 0;
-    while i < text.len() {
-        k = print_piece(text[i], counts, k);
-        i += 1;
+impl Comparisons {
+    // One comparison: counted, and said if it differs. Each has a number, and each sheet.
+    pub fn compare(
+        &mut self,
+        rt: &impl Print,
+        what: u32,
+        sheet: u32,
+        agrees: bool,
+    ) -> io::Result<()> {
+        if agrees {
+            add(&mut self.agree, 1);
+            return Ok(());
+        }
+        add(&mut self.differ, 1);
+        println!(rt; "comparison {what} differs in sheet {sheet}")
     }
 }
 
-// One comparison: counted, and said if it differs. Each has a number, and each sheet.
-pub fn compare(counts: [u32; 40], what: u32, sheet: u32, ok: bool) -> [u32; 40] {
-    if ok {
-        return add(counts, AGREE, 1);
+impl fmt::Display for Comparisons {
+    fn fmt<W: fmt::Write>(&self, f: &mut fmt::Formatter<W>) -> fmt::Result {
+        write!(
+            f,
+            "comparisons, differences: {} {}",
+            self.agree, self.differ
+        )
     }
-    let mut numbers = [0u32; 40];
-    numbers[0] = what;
-    numbers[1] = sheet;
-    print(b"comparison # differs in sheet #\n", &numbers);
-    add(counts, DIFFER, 1)
+}
+
+// A sum of 32 bits, which wraps.
+pub fn add(sum: &mut u32, by: u32) {
+    *sum = sum.wrapping_add(by);
 }

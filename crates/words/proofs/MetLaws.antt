@@ -1,24 +1,94 @@
--- Laws of words met in their places, and of counts, in the steps of the loops.
-use mathlib.Core.Path.{◌≡◌, refl, ◌∙◌}
+-- Laws of words met in their places, and of counts.
+use mathlib.Core.Path.{◌≡◌, refl, ap, ◌∙◌}
 use mathlib.Core.Bool.{Bool, true, false, cond}
-use mathlib.Core.List.{List, [], ◌∷◌}
+use mathlib.Core.List.{List, [], ◌∷◌, ◌++◌, append_assoc}
 use mathlib.Core.Option.{Option, none, some}
-use Prim.Native.Nat.{ℕ, zero, suc, ◌+◌, ◌*◌, ◌-◌, ◌/◌, ◌≤◌, ◌<◌}
-use native.Mathlib.Nat.{sub-zero}
+use Prim.Native.Nat.{ℕ, zero, suc, ◌+◌, ◌*◌, ◌-◌, ◌≤◌, ◌<◌, ◌^◌}
 use native.Mathlib.Numerals.{add-one}
 use native.Mathlib.Omega.{arith}
-use lib.ListN.{length, get_or, take, drop, length-drop, drop_of_length-le}
+use lib.ListN.{length, get_or, drop, length-append, drop_of_length-le}
 use lib.Seq.{drop-cons}
+use lib.Dec.{eqb}
+use lib.Pointwise.{pointwise}
 use borrow.Author.Tests.{le-leb, lt-leb}
-use Rattle.base.proofs.Cases.{case}
+use denote.Ref.{Bor}
+use Rattle.std.specs.Prelude.{Some, None}
+use Rattle.std.specs.Prelude as found
+use Rattle.base.proofs.Cases.{case, lt_ge}
 use Rattle.sections.specs.Labels.{same_bytes}
 use Rattle.writing.specs.Claims.{value_after}
-use Rattle.words.specs.declared.Reached.{Reached}
-use Rattle.words.specs.declared.Reached.TheVariants.{At, Broken}
-use Rattle.words.specs.declared.Count.TheVariants.{Of, Unfit}
-use Rattle.words.specs.Words.{Words, words_at}
-use Rattle.words.specs.Met.{keyword, any_words, all_digits, counted, NextWord, Reaches, CountOf}
+use Rattle.words.specs.Words.{Words, words}
+use Rattle.words.specs.Met.{keyword, any_words, all_digits, counted, NextWord, Follows, Reaches, CountOf}
 use Rattle.words.proofs.WordLaws.{words_few}
+
+-- WHAT FOLLOWS what follows
+pub follows_all : (s : List ℕ) → Follows s s
+follows_all s = ([], refl)
+
+pub follows_on : {s t r : List ℕ} → Follows s t → Follows t r → Follows s r
+follows_on h k = (h.0 ++ k.0, append_assoc h.0 k.0 _ ∙ ap (λ (l : List ℕ). h.0 ++ l) k.1 ∙ h.1)
+
+pub follows_length : {s r : List ℕ} → Follows s r → length r ≤ length s
+follows_length {s} {r} h = let e = length-append h.0 r in let z = ap length h.1 in omega arith
+
+pub follows_same : {s r : List ℕ} → Follows s r → length r ≡ length s → r ≡ s
+follows_same {s} {r} h l = none h.0 (let e = length-append h.0 r in let z = ap length h.1 in omega arith) h.1
+  where
+    none : (front : List ℕ) → length front ≡ 0 → front ++ r ≡ s → r ≡ s
+    none [] z e = e
+    none (b ∷ front) z e = absurd (omega arith)
+
+-- what is met in what follows is met in the text
+pub reaches_from : {s t : List ℕ} (r : found.Option (Bor (List ℕ))) {left all : Option Words} → Follows s t → all ≡ left → Reaches t r left → Reaches s r all
+reaches_from None h e m = e ∙ m
+reaches_from (Some rest) h e m = (e ∙ m.0, follows_on h m.1)
+
+-- the library's comparison of slices, as the grammar's
+pub pointwise_same : (a b : List ℕ) → pointwise eqb a b ≡ same_bytes a b
+unfolding same_bytes
+pointwise_same [] [] = refl
+pointwise_same [] (y ∷ ys) = refl
+pointwise_same (x ∷ xs) [] = refl
+pointwise_same (x ∷ xs) (y ∷ ys) = rw (pointwise_same xs ys) refl
+
+-- AT THE NEXT WORD: where there is none, and where there is one
+module _ (s : List ℕ) (none_left : words s ≡ []) where
+  pub keyword_none : (key : List ℕ) → keyword key (words s) ≡ none
+  unfolding keyword
+  keyword_none key = rw none_left
+
+  pub any_none : (k : ℕ) → 1 ≤ k → any_words k (words s) ≡ none
+  unfolding any_words
+  any_none zero h = absurd (omega arith)
+  any_none (suc k) h = rw none_left
+
+  pub counted_none : counted (words s) ≡ none
+  unfolding counted
+  counted_none = rw none_left
+
+module _ {s word rest : List ℕ} (next : NextWord s word rest) where
+  pub next_follows : Follows s rest
+  next_follows = (next.gaps ++ word, append_assoc next.gaps word rest ∙ next.whole)
+
+  pub next_shorter : length rest < length s
+  next_shorter =
+      let e = length-append next.gaps (word ++ rest) in
+      let d = length-append word rest in
+      let z = ap length next.whole in
+      let some = next.some in
+      omega arith
+
+  pub keyword_is : (key : List ℕ) (met : Bool) → met ≡ same_bytes word key → keyword key (words s) ≡ cond met (some (words rest)) none
+  unfolding keyword
+  keyword_is key met e = rw (next.ahead, e)
+
+  pub any_next : (k : ℕ) → any_words (suc k) (words s) ≡ any_words k (words rest)
+  unfolding any_words
+  any_next k = rw next.ahead
+
+  pub counted_is : (k : ℕ) → CountOf word (Some k) → counted (words s) ≡ any_words k (words rest)
+  unfolding counted
+  counted_is k h = rw (next.ahead, h.0, h.1)
 
 -- FEWER WORDS than are asked for
 any_short : (k : ℕ) (ws : Words) → length ws < k → any_words k ws ≡ none
@@ -27,67 +97,25 @@ any_short zero ws h = absurd (omega arith)
 any_short (suc k) [] h = refl
 any_short (suc k) (w ∷ ws) h = any_short k ws (omega arith)
 
-few_at : (s : List ℕ) (p : ℕ) → length (words_at s p) ≤ length s
-few_at s p = let h = words_few false (drop p s) in let l = length-drop p s in omega arith
-
 either_none : (b : Bool) (left : Option Words) → left ≡ none → cond b left none ≡ none
 either_none true left e = e
 either_none false left e = refl
 
--- what is met from a later place on is met from an earlier one, behind what is met before it
-reaches_from : (s : List ℕ) (p q : ℕ) (r : Reached) (left all : Option Words) → p ≤ q → all ≡ left → Reaches s q r left → Reaches s p r all
-reaches_from s p q (At place) left all h e m = (e ∙ m.0, (omega arith, m.1.1))
-reaches_from s p q Broken left all h e m = e ∙ m
+pub counted_unfit : {s word rest : List ℕ} → NextWord s word rest → length s < 2 ^ 64 → CountOf word None → counted (words s) ≡ none
+unfolding counted
+counted_unfit {s} {word} {rest} next fits h =
+    let few = words_few false rest in
+    let short = next_shorter next in
+    rw next.ahead
+    (case h (λ e. rw e) (λ l. either_none (all_digits word) _ (any_short (value_after 0 word) (words rest) (omega arith))))
 
--- AT THE NEXT WORD: where there is none, and where there is one
-module _ {s : List ℕ} {place start end : ℕ} (next : NextWord s place start end) where
-  abbrev word : List ℕ
-  word = take (end - start) (drop start s)
-
-  ahead : (start ≡ end → ⊥) → words_at s place ≡ word ∷ words_at s end
-  ahead d = rw next.word.bytes (next.ahead (omega arith))
-
-  pub keyword_none : (key : List ℕ) → start ≡ end → keyword key (words_at s place) ≡ none
-  unfolding keyword
-  keyword_none key e = rw (next.nothing e)
-
-  pub keyword_is : (key : List ℕ) (met : Bool) → (start ≡ end → ⊥) → met ≡ same_bytes word key
-      → keyword key (words_at s place) ≡ cond met (some (words_at s end)) none
-  unfolding keyword
-  keyword_is key met d e = rw (ahead d, e)
-
-  pub any_none : (count i : ℕ) → i < count → start ≡ end → any_words (count - i) (words_at s place) ≡ none
-  unfolding any_words
-  any_none count i h e = let n : count - i ≡ suc (count - (i + 1)) = omega arith in rw (n, next.nothing e)
-
-  pub any_next : (count i : ℕ) → i < count → (start ≡ end → ⊥) → any_words (count - i) (words_at s place) ≡ any_words (count - (i + 1)) (words_at s end)
-  unfolding any_words
-  any_next count i h d = let n : count - i ≡ suc (count - (i + 1)) = omega arith in rw (n, ahead d)
-
-  pub counted_none : start ≡ end → counted (words_at s place) ≡ none
-  unfolding counted
-  counted_none e = rw (next.nothing e)
-
-  pub counted_unfit : (start ≡ end → ⊥) → CountOf word (length s) Unfit → counted (words_at s place) ≡ none
-  unfolding counted
-  counted_unfit d h =
-      let few = few_at s end in
-      rw (ahead d) (case h (λ e. rw e) (λ l. either_none (all_digits word) _ (any_short (value_after 0 word) (words_at s end) (omega arith))))
-
-  counted_is : (k : ℕ) → (start ≡ end → ⊥) → CountOf word (length s) (Of k) → counted (words_at s place) ≡ any_words k (words_at s end)
-  unfolding counted
-  counted_is k d h = rw (ahead d, h.0, h.1)
-
-  pub counted_reaches : (k : ℕ) (r : Reached) → (start ≡ end → ⊥) → CountOf word (length s) (Of k)
-      → Reaches s end r (any_words k (words_at s end)) → Reaches s place r (counted (words_at s place))
-  counted_reaches k r d h = reaches_from s place end r _ _ (omega arith) (counted_is k d h)
-
-pub any_start : (count : ℕ) (ws : Words) → any_words count ws ≡ any_words (count - 0) ws
-any_start count ws = rw sub-zero
-
+-- IN THE LOOP over so many words
 pub any_end : (count i : ℕ) (ws : Words) → count ≤ i → any_words (count - i) ws ≡ some ws
 unfolding any_words
 any_end count i ws h = let e : count - i ≡ 0 = omega arith in rw e
+
+pub any_turn : {s word rest : List ℕ} (count i : ℕ) → i < count → NextWord s word rest → any_words (count - i) (words s) ≡ any_words (count - (i + 1)) (words rest)
+any_turn count i h next = let n : count - i ≡ suc (count - (i + 1)) = omega arith in rw n (any_next next _)
 
 -- DIGITS, one after the other: a value only grows
 value_grows : (v : ℕ) (w : List ℕ) → v ≤ value_after v w
@@ -100,13 +128,10 @@ module _ (w : List ℕ) (i : ℕ) where
   unfolding all_digits
   digits_more h l u = rw (add-one, drop-cons w i 0, le-leb _ _ l, le-leb _ _ u)
 
-  pub digits_low : i < length w → get_or w i 0 < 48 → all_digits (drop i w) ≡ false
+  pub digits_other : i < length w → (48 ≤ get_or w i 0 → 57 < get_or w i 0) → all_digits (drop i w) ≡ false
   unfolding all_digits
-  digits_low h l = rw (drop-cons w i 0, lt-leb _ _ l)
-
-  pub digits_high : i < length w → 48 ≤ get_or w i 0 → 57 < get_or w i 0 → all_digits (drop i w) ≡ false
-  unfolding all_digits
-  digits_high h l u = rw (drop-cons w i 0, le-leb _ _ l, lt-leb _ _ u)
+  digits_other h o =
+      case (lt_ge (get_or w i 0) 48) (λ l. rw (drop-cons w i 0 h, lt-leb _ _ l)) (λ g. rw (drop-cons w i 0 h, le-leb _ _ g, lt-leb _ _ (o g)))
 
   pub digits_end : length w ≤ i → all_digits (drop i w) ≡ true
   unfolding all_digits
@@ -120,8 +145,8 @@ module _ (w : List ℕ) (i : ℕ) where
   unfolding value_after
   value_end v h = rw (drop_of_length-le w h)
 
-  -- a digit makes it ten times as much at least
-  pub value_passes : (most v : ℕ) → i < length w → most / 10 < v → most < value_after v (drop i w)
+  -- with a digit it is that much at least
+  pub value_passes : (most v : ℕ) → i < length w → most ≤ 10 * v + (get_or w i 0 - 48) → most ≤ value_after v (drop i w)
   value_passes most v h l =
       let more = value_more v h in
       let grown = value_grows (10 * v + (get_or w i 0 - 48)) (drop (i + 1) w) in

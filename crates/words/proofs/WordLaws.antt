@@ -2,14 +2,15 @@
 use mathlib.Core.Path.{◌≡◌, refl, ap, ◌∙◌}
 use mathlib.Core.Bool.{Bool, true, false}
 use mathlib.Core.List.{List, [], ◌∷◌}
-use Prim.Native.Nat.{ℕ, suc, ◌+◌, ◌-◌, ◌≤◌, ◌<◌}
-use native.Mathlib.Numerals.{add-one}
+use Prim.Native.Nat.{ℕ, zero, suc, ◌-◌, ◌≤◌, ◌<◌}
 use native.Mathlib.Omega.{arith}
-use lib.ListN.{length, get_or, take, drop, drop_of_length-le}
-use lib.Seq.{drop-cons, drop-drop}
-use Rattle.base.proofs.Cases.{case, both_ways, lt_ge}
-use Rattle.words.specs.Words.{is_gap, run, words_after, words, words_at, word_at}
-use Rattle.words.specs.Met.{IsWord, NextWord}
+use lib.ListN.{length, get_or, take, drop, take-append-drop, length-drop}
+use lib.Seq.{drop-cons}
+use Rattle.std.proofs.lemmas.List.{take_all}
+use Rattle.std.specs.Prelude.{◌≢◌}
+use Rattle.base.proofs.Cases.{case, both_ways}
+use Rattle.words.specs.Words.{is_gap, run, words_after, words}
+use Rattle.words.specs.Met.{NextWord}
 
 -- A TEXT'S FIRST BYTE is a gap, or one of a word
 pub gap_run : (b : ℕ) (s : List ℕ) → is_gap b ≡ true → run (b ∷ s) ≡ []
@@ -51,41 +52,50 @@ words_few begun (b ∷ s) =
     let outside = words_few false s in
     case (both_ways (is_gap b)) (λ e. rw e (omega arith)) (λ e. case (both_ways begun) (λ y. rw (e, y) (omega arith)) (λ n. rw (e, n) (omega arith)))
 
--- A PLACE with a gap, with a byte of a word, behind the end
-pub words_gap : (s : List ℕ) (i : ℕ) → i < length s → is_gap (get_or s i 0) ≡ true → words_at s i ≡ words_at s (i + 1)
-words_gap s i h e = rw (add-one, drop-cons s i 0) (gap_after _ false _ e)
+-- THE NEXT WORD: gaps in front part no words
+pub words_behind : (n : ℕ) (s : List ℕ) → n ≤ length s → ((i : ℕ) → i < n → is_gap (get_or s i 0) ≡ true) → words s ≡ words (drop n s)
+words_behind zero s h g = refl
+words_behind (suc n) [] h g = absurd (omega arith)
+words_behind (suc n) (b ∷ s) h g = gap_after b false s (g 0 (omega arith)) ∙ words_behind n s (omega arith) (λ i l. g (suc i) (omega arith))
 
-pub run_gap : (s : List ℕ) (i : ℕ) → i < length s → is_gap (get_or s i 0) ≡ true → length (word_at s i) ≡ 0
-run_gap s i h e = rw (drop-cons s i 0, gap_run _ _ e)
-
-pub run_byte : (s : List ℕ) (i : ℕ) → i < length s → is_gap (get_or s i 0) ≡ false → length (word_at s i) ≡ suc (length (word_at s (i + 1)))
-run_byte s i h e = rw (add-one, drop-cons s i 0, byte_run _ _ e)
-
-pub run_end : (s : List ℕ) (i : ℕ) → length s ≤ i → length (word_at s i) ≡ 0
+-- a word goes on up to a gap or the end
+pub run_length : (n : ℕ) (s : List ℕ) → n ≤ length s → ((i : ℕ) → i < n → is_gap (get_or s i 0) ≡ false)
+    → (n < length s → is_gap (get_or s n 0) ≡ true) → n ≡ length (run s)
 unfolding run
-run_end s i h = rw (drop_of_length-le s h)
+run_length zero [] h g e = refl
+run_length zero (b ∷ s) h g e = rw (e (omega arith)) refl
+run_length (suc n) [] h g e = absurd (omega arith)
+run_length (suc n) (b ∷ s) h g e =
+    rw (g 0 (omega arith)) (ap suc (run_length n s (omega arith) (λ i l. g (suc i) (omega arith)) (λ l. e (omega arith))))
 
-words_end : (s : List ℕ) (i : ℕ) → length s ≤ i → words_at s i ≡ []
+-- what is found behind n gaps, in what follows them
+pub rest_is : (s : List ℕ) (n : ℕ) → take (length s - n) (drop n s) ≡ drop n s
+rest_is s n = let e = length-drop n s in take_all _ (drop n s) (omega arith)
+
+pub run_within : (s : List ℕ) → length (run s) ≤ length s
+unfolding run
+run_within [] = omega arith
+run_within (b ∷ s) = let h = run_within s in case (both_ways (is_gap b)) (λ e. rw e (omega arith)) (λ e. rw e (omega arith))
+
+pub none_left : (s : List ℕ) {t : List ℕ} (n : ℕ) → words s ≡ words (drop n s) → t ≡ drop n s → length t ≡ 0 → words s ≡ []
 unfolding words_after
-words_end s i h = rw (drop_of_length-le s h)
+none_left s {t} n same e z = same ∙ rw (← e) (empty t z)
+  where
+    empty : (t : List ℕ) → length t ≡ 0 → words t ≡ []
+    empty [] z = refl
+    empty (b ∷ t) z = absurd (omega arith)
 
--- what the two loops find is the next word
-module _ (s : List ℕ) (start : ℕ) where
-  word_at_lem : start < length s → is_gap (get_or s start 0) ≡ false → words_at s start ≡ word_at s start ∷ words_at s (start + length (word_at s start))
-  word_at_lem h e = rw (← drop-drop (length (word_at s start)) start s, drop-cons s start 0) (words_word _ _ e)
-
-  pub word_is : (end : ℕ) → end ≡ start + length (word_at s start) → end ≤ length s → IsWord s start end
-  word_is end e within =
-      let size : end - start ≡ length (word_at s start) = omega arith in
-      record { upward = omega arith; within = within; bytes = rw size (run_front _) }
-
-  pub next_word : (place end : ℕ)
-      → (place ≤ start) × (start ≤ length s) → words_at s place ≡ words_at s start → (start < length s → is_gap (get_or s start 0) ≡ false)
-      → end ≡ start + length (word_at s start) → end ≤ length s → NextWord s place start end
-  next_word place end h same byte e within =
-      record {
-        onward = h.0;
-        word = word_is end e within;
-        ahead = λ l. same ∙ rw e (word_at_lem (omega arith) (byte (omega arith)));
-        nothing = λ z. same ∙ case (lt_ge start (length s)) (λ l. absurd (let long = run_byte s start l (byte l) in omega arith)) (words_end s start);
-      }
+pub next_is : (s : List ℕ) {t word rest : List ℕ} (n k : ℕ) → words s ≡ words (drop n s) → t ≡ drop n s → length t ≢ 0
+    → (n < length s → is_gap (get_or s n 0) ≡ false) → k ≡ length (run t) → word ≡ take k t → rest ≡ drop k t → NextWord s word rest
+next_is s {t} {word} {rest} n k same e some byte size w r =
+    let l = length-drop n s in
+    let long = ap length e in
+    let h : n < length s = omega arith in
+    let cons = e ∙ drop-cons s n 0 h in
+    let front : word ≡ run t = rw (w, size) (run_front t) in
+    record {
+      gaps = take n s;
+      whole = rw (w, r, take-append-drop k t, e) (take-append-drop n s);
+      some = rw (front, cons, byte_run _ (drop (suc n) s) (byte h)) (omega arith);
+      ahead = same ∙ rw (front, r, size, ← e, cons) (words_word _ (drop (suc n) s) (byte h));
+    }

@@ -1,14 +1,13 @@
 -- Words met in their places: a word that must stand there, any words, a count with as many words. Each says which words are left, or none
 -- where it is not met.
-use Rattle.std.specs.Prelude.{◌≡◌, ◌⊎◌, Bool, true, false, ◌&&◌, cond, List, [], ◌∷◌, ℕ, zero, suc, ◌-◌, ◌≤◌, ◌<◌, leb, length, take, drop}
+use Rattle.std.specs.Prelude.{◌≡◌, ◌⊎◌, Bool, true, false, ◌&&◌, cond, List, [], ◌∷◌, ◌++◌, ℕ, zero, suc, ◌^◌, ◌≤◌, leb, length, Some, None}
+use Rattle.std.specs.Borrow.{Bor}
 use Rattle.std.proofs.Math.Option.{Option, none, some}
 use Rattle.sections.specs.Labels.{same_bytes}
 use Rattle.writing.specs.Claims.{value_after}
-use Rattle.words.specs.declared.Reached.{Reached}
-use Rattle.words.specs.declared.Reached.TheVariants.{At, Broken}
-use Rattle.words.specs.declared.Count.{Count}
-use Rattle.words.specs.declared.Count.TheVariants.{Of, Unfit}
-use Rattle.words.specs.Words.{Words, words_at, word_at}
+use Rattle.std.specs.Prelude as found
+use Rattle.words.specs.declared.Word.{Word}
+use Rattle.words.specs.Words.{Words, words}
 
 -- one that must stand there
 unfoldable pub keyword : List ℕ → Words → Option Words
@@ -30,25 +29,28 @@ unfoldable pub counted : Words → Option Words
 counted [] = none
 counted (w ∷ ws) = cond (all_digits w) (any_words (value_after 0 w) ws) none
 
--- IN A TEXT s. A word that begins at `start` ends before `end`.
-pub record IsWord (s : List ℕ) (start end : ℕ) : Type 0 where
-  pub upward : start ≤ end
-  pub within : end ≤ length s
-  pub bytes : take (end - start) (drop start s) ≡ word_at s start
+-- IN A TEXT s. The word that comes next, behind gaps, and what follows it
+pub record NextWord (s word rest : List ℕ) : Type 0 where
+  pub gaps : List ℕ
+  pub whole : gaps ++ (word ++ rest) ≡ s
+  pub some : 1 ≤ length word
+  pub ahead : words s ≡ word ∷ words rest
 
--- The word that comes next at a place; where it begins and ends at one place no word is left.
-pub record NextWord (s : List ℕ) (place start end : ℕ) : Type 0 where
-  pub onward : place ≤ start
-  pub word : IsWord s start end
-  pub ahead : start < end → words_at s place ≡ word_at s start ∷ words_at s end
-  pub nothing : start ≡ end → words_at s place ≡ []
+-- .. or no word is left
+abbrev pub Next : List ℕ → found.Option Word → Type 0
+Next s None = words s ≡ []
+Next s (Some w) = NextWord s w.bytes.now w.rest.now
 
--- from one place words are met up to another, and what is left is what is left there; or they are not met
-abbrev pub Reaches : List ℕ → ℕ → Reached → Option Words → Type 0
-Reaches s p (At q) left = (left ≡ some (words_at s q)) × ((p ≤ q) × (q ≤ length s))
-Reaches s p Broken left = left ≡ none
+-- what follows a front of the text
+abbrev pub Follows : List ℕ → List ℕ → Type 0
+Follows s rest = (front : List ℕ) × (front ++ rest ≡ s)
 
--- a word that counts at most `most` is digits, and its value is found; any other is either not digits or counts more
-abbrev pub CountOf : List ℕ → ℕ → Count → Type 0
-CountOf w most (Of k) = (all_digits w ≡ true) × (value_after 0 w ≡ k)
-CountOf w most Unfit = (all_digits w ≡ false) ⊎ (most < value_after 0 w)
+-- words are met, and those left are the words of what follows; or they are not met
+abbrev pub Reaches : List ℕ → found.Option (Bor (List ℕ)) → Option Words → Type 0
+Reaches s None left = left ≡ none
+Reaches s (Some rest) left = (left ≡ some (words rest.now)) × Follows s rest.now
+
+-- a word of digits has its value, if this is a usize's; any other is either not digits or counts more
+abbrev pub CountOf : List ℕ → found.Option ℕ → Type 0
+CountOf w None = (all_digits w ≡ false) ⊎ (2 ^ 64 ≤ value_after 0 w)
+CountOf w (Some k) = (all_digits w ≡ true) × (value_after 0 w ≡ k)

@@ -1,5 +1,5 @@
 -- The words of a text: runs of bytes, parted by the bytes 32, 9, 10 and 13.
-use Rattle.std.specs.Prelude.{Bool, true, false, ◌||◌, cond, List, [], ◌∷◌, ℕ, eqb, drop}
+use Rattle.std.specs.Prelude.{Bool, true, false, ◌||◌, cond, List, [], ◌∷◌, ℕ, eqb}
 
 abbrev pub Words : Type 0
 Words = List (List ℕ)
@@ -20,10 +20,3 @@ words_after begun (b ∷ s) = cond (is_gap b) (words_after false s) (cond begun 
 
 abbrev pub words : List ℕ → Words
 words s = words_after false s
-
--- the words from a place on, and the word that begins at a place
-abbrev pub words_at : List ℕ → ℕ → Words
-words_at s p = words (drop p s)
-
-abbrev pub word_at : List ℕ → ℕ → List ℕ
-word_at s p = run (drop p s)

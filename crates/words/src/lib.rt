@@ -1,138 +1,77 @@
-// The words of a text, met one after the other from a place on. For the crates above, which prove what they require.
+// The words of a text, met one after the other. For the crates above, which prove what they require.
 #![tactic(auto)]
 
 mod counts;
 
-ghost use Rattle.std.specs.Prelude.{◌≡◌, false, ◌+◌, ◌-◌, ◌≤◌, ◌<◌, length, get_or, take, drop};
+ghost use Rattle.std.specs.Prelude.{◌≡◌, true, false, ℕ, ◌<◌, ◌≤◌, length, slice_index};
 ghost use Rattle.sections.specs.Labels.{same_bytes};
-ghost use Rattle.words.specs.Words.{is_gap, words_at, word_at};
-ghost use Rattle.words.specs.Met.{keyword, any_words, NextWord, Reaches};
+ghost use Rattle.words.specs.Words.{is_gap, run, words};
+ghost use Rattle.words.specs.Met.{keyword, any_words, Next, Reaches};
 
 pub use counts::counted_words;
 
-// A word of a text: where it begins, and where it ends. Where these are one, no word is left.
+// A word of a text, and what follows it there.
 #[derive(Clone, Copy)]
-pub struct Word {
-    pub start: usize,
-    pub end: usize,
+pub struct Word<'a> {
+    pub bytes: &'a [u8],
+    pub rest: &'a [u8],
 }
 
-// What meeting words answers: the place behind them, or that they are not there.
-#[derive(Clone, Copy)]
-pub enum Reached {
-    At(usize),
-    Broken,
-}
-
-// What a word of digits counts, or that it is none or counts too many.
-#[derive(Clone, Copy)]
-enum Count {
-    Of(usize),
-    Unfit,
-}
-
+#[tactic(auto, unfolding(crate::specs::Words::is_gap))]
 fn is_gap(b: u8) -> bool
     ensures { result ≡ is_gap b }
 {
-    if b == 32 {
-        return true;
-    }
-    if b == 9 {
-        return true;
-    }
-    if b == 10 {
-        return true;
-    }
-    b == 13
+    matches!(b, b' ' | b'\t' | b'\n' | b'\r')
 }
 
-// Where the next word begins: behind the gaps, or at the text's end.
-fn word_start(text: &[u8], at: usize) -> usize
-    requires { at ≤ length text.now }
-    ensures lower_bound { (at ≤ result) × (result ≤ length text.now) }
-    ensures at_value { words_at text.now at ≡ words_at text.now result }
-    ensures result_value { result < length text.now → is_gap (get_or text.now result 0) ≡ false }
+// How many gaps the text begins with.
+fn gaps(text: &[u8]) -> usize
+    ensures within { result ≤ length text.now }
+    ensures before { (i : ℕ) → i < result → is_gap (slice_index text.now i) ≡ true }
+    ensures behind { result < length text.now → is_gap (slice_index text.now result) ≡ false }
 {
-    let mut i = at;
-    while i < text.len() {
-        let gap = is_gap(text[i]);
-        if !gap {
-            return i;
-        }
-        i += 1;
-    }
-    i
+    text.iter().position(|b| !is_gap(*b)).unwrap_or(text.len())
 }
 
-// Where the word that begins at a place ends.
-pub fn word_end(text: &[u8], start: usize) -> usize
-    requires { start ≤ length text.now }
-    ensures value { result ≡ start + length (word_at text.now start) }
-    ensures upper_bound { result ≤ length text.now }
+// How many bytes the word has that the text begins with.
+fn word_length(text: &[u8]) -> usize
+    ensures value { result ≡ length (run text.now) }
+    ensures within { result ≤ length text.now }
 {
-    let mut i = start;
-    while i < text.len() {
-        let gap = is_gap(text[i]);
-        if gap {
-            return i;
-        }
-        i += 1;
-    }
-    i
+    text.iter().position(|b| is_gap(*b)).unwrap_or(text.len())
 }
 
-// The next word from a place on.
-pub fn next_word(text: &[u8], at: usize) -> Word
-    requires { at ≤ length text.now }
-    ensures { NextWord text.now at result.start result.end }
+// The next word, behind gaps.
+pub fn next_word(text: &[u8]) -> Option<Word<'_>>
+    ensures { Next text.now result }
 {
-    let start = word_start(text, at);
-    Word {
-        start: start,
-        end: word_end(text, start),
+    let begun = &text[gaps(text)..];
+    if begun.is_empty() {
+        return None;
     }
+    let (bytes, rest) = begun.split_at(word_length(begun));
+    Some(Word { bytes, rest })
 }
 
-// Is a word of the text this one?
-pub fn is_word(text: &[u8], word: Word, key: &[u8]) -> bool
-    requires { (word.start ≤ word.end) × (word.end ≤ length text.now) }
-    ensures { result ≡ same_bytes (take (word.end - word.start) (drop word.start text.now)) key.now }
+// Meets a word that must stand there. What follows it is left.
+pub fn keyword<'a>(text: &'a [u8], key: &[u8]) -> Option<&'a [u8]>
+    ensures { Reaches text.now result (keyword key.now (words text.now)) }
 {
-    let start = word.start;
-    let end = word.end;
-    check::same(&text[start..end], key)
-}
-
-// Meets a word that must stand there.
-pub fn keyword_at(text: &[u8], at: usize, key: &[u8]) -> Reached
-    requires { at ≤ length text.now }
-    ensures { Reaches text.now at result (keyword key.now (words_at text.now at)) }
-{
-    let word = next_word(text, at);
-    if word.start == word.end {
-        return Reached::Broken;
+    let word = next_word(text)?;
+    if word.bytes == key {
+        Some(word.rest)
+    } else {
+        None
     }
-    let met = is_word(text, word, key);
-    if met {
-        return Reached::At(word.end);
-    }
-    Reached::Broken
 }
 
 // Meets so many words, whatever they are.
-pub fn any_words(text: &[u8], at: usize, count: usize) -> Reached
-    requires { at ≤ length text.now }
-    ensures { Reaches text.now at result (any_words count (words_at text.now at)) }
+pub fn any_words(text: &[u8], count: usize) -> Option<&[u8]>
+    ensures { Reaches text.now result (any_words count (words text.now)) }
 {
-    let mut place = at;
-    let mut i = 0;
-    while i < count {
-        let word = next_word(text, place);
-        if word.start == word.end {
-            return Reached::Broken;
-        }
-        place = word.end;
-        i += 1;
+    let mut rest = text;
+    for _ in 0..count {
+        rest = next_word(rest)?.rest;
     }
-    Reached::At(place)
+    Some(rest)
 }

@@ -1,5 +1,5 @@
 -- Laws of decimals: how long they are, and what they mean.
-use mathlib.Core.Path.{◌≡◌, refl}
+use mathlib.Core.Path.{◌≡◌, refl, ◌∙◌}
 use mathlib.Core.Bool.{Bool, true, false, cond}
 use mathlib.Core.List.{List, [], ◌∷◌}
 use Prim.Native.Nat.{ℕ, zero, suc, ◌+◌, ◌/◌, ◌%◌, ◌≤◌, ◌<◌}
@@ -7,6 +7,8 @@ use native.Mathlib.Omega.{arith}
 use lib.Dec.{leb}
 use lib.ListN.{length, get_or, length-append}
 use borrow.Author.Tests.{le-leb, lt-leb}
+use Rattle.std.specs.Fmt as printed
+use Rattle.std.proofs.lemmas.Fmt as printed_laws
 use Rattle.base.proofs.Cases.{case, lt_ge}
 use Rattle.writing.specs.Decimal.{digit, decimal, number_line}
 use Rattle.writing.specs.Claims.{value_after, IsDecimal, DecimalMeans}
@@ -38,6 +40,19 @@ two_digits k h l = rw (lt-leb 100 k l, le-leb 10 k h)
 three_digits : (k : ℕ) → 100 ≤ k → decimal k ≡ digit (k / 100) ∷ digit (k / 10 % 10) ∷ digit (k % 10) ∷ []
 unfolding decimal
 three_digits k h = rw (le-leb 100 k h, le-leb 10 k (omega arith))
+
+-- as the library prints it
+pub decimal_printed : (k : ℕ) → k < 1000 → printed.decimal k ≡ decimal k
+decimal_printed k h =
+    case (lt_ge k 10)
+    (λ l. let e : k % 10 ≡ k = omega arith in printed_laws.decimal_digit k l ∙ rw (one_digit k l, e) refl)
+    (λ g. printed_laws.decimal_step k g (omega arith) ∙ case (lt_ge k 100)
+    (λ l.
+    let tens : k / 10 % 10 ≡ k / 10 = omega arith in
+    rw (printed_laws.decimal_digit (k / 10) (omega arith), two_digits k g l, tens) refl)
+    (λ g₁.
+    let hundreds : k / 10 / 10 ≡ k / 100 = omega arith in
+    rw (printed_laws.decimal_step (k / 10) (omega arith) (omega arith), printed_laws.decimal_digit (k / 10 / 10) (omega arith), three_digits k g₁, hundreds) refl))
 
 abbrev IsDigit : ℕ → Type 0
 IsDigit b = (48 ≤ b) × (b ≤ 57)

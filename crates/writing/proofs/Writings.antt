@@ -1,13 +1,13 @@
 -- Laws of writing: what is written piece by piece is the whole.
-use mathlib.Core.Path.{◌≡◌, refl, ap, ◌∙◌}
-use mathlib.Core.Bool.{Bool, true, false, cond}
+use mathlib.Core.Path.{◌≡◌, refl, ap, sym, ◌∙◌}
 use mathlib.Core.List.{List, [], ◌∷◌, ◌++◌}
 use Prim.Native.Nat.{ℕ, suc, ◌+◌, ◌≤◌, ◌<◌}
 use native.Mathlib.Nat.{add-zero, add-suc, suc-add}
 use native.Mathlib.Numerals.{add-one}
 use native.Mathlib.Omega.{arith}
 use lib.ListN.{length, get_or, set, take, drop, length-append}
-use lib.Seq.{sets, sets-eq, length-sets, take-suc}
+use lib.Seq.{drop-drop, sets, sets-eq, length-sets, take-suc}
+use Rattle.std.proofs.lemmas.List.{append_assoc}
 use Rattle.base.specs.Below.{joined}
 use Rattle.base.proofs.Joined.{joined_zero, joined_next}
 use Rattle.writing.specs.Written.{written, Wrote, over}
@@ -33,6 +33,13 @@ pub one_wrote : (l : List ℕ) (i b : ℕ) → Wrote l i (b ∷ []) (set l i b) 
 unfolding written
 one_wrote l i b = record { buffer = refl; behind = omega arith }
 
+pub copied_wrote : (l bytes : List ℕ) (i : ℕ) → i + length bytes ≤ length l
+    → Wrote l i bytes (take i l ++ (bytes ++ drop (length bytes) (drop i l))) (i + length bytes)
+copied_wrote l bytes i h = record {
+  buffer = rw (drop-drop (length bytes) i l) (sym (written_sets bytes l i ∙ sets-eq bytes l i h ∙ append_assoc (take i l) bytes _));
+  behind = refl;
+}
+
 pub wrote_append : {l l₁ l₂ a b : List ℕ} {i i₁ i₂ : ℕ} → Wrote l i a l₁ i₁ → Wrote l₁ i₁ b l₂ i₂ → Wrote l i (a ++ b) l₂ i₂
 wrote_append {l} {l₁} {l₂} {a} {b} {i} u v =
     record { buffer = rw (written_append, ← u.behind, ← u.buffer) v.buffer; behind = rw length-append (omega arith) }
@@ -42,14 +49,6 @@ pub wrote_more :
     {l l₁ l₂ : List ℕ} {i i₁ i₂ : ℕ} (w : List ℕ) (k : ℕ) → k < length w → Wrote l i (take k w) l₁ i₁ → Wrote l₁ i₁ (get_or w k 0 ∷ []) l₂ i₂
     → Wrote l i (take (k + 1) w) l₂ i₂
 wrote_more w k h u v = rw (add-one, take-suc w k 0) (wrote_append u v)
-
--- bytes that a test decides: written, or not
-pub wrote_taken :
-    {l l₁ l₂ a : List ℕ} {i i₁ i₂ : ℕ} (b : Bool) → b ≡ true → Wrote l i a l₁ i₁ → l₂ ≡ l₁ → i₂ ≡ i₁ → Wrote l i (cond b a []) l₂ i₂
-wrote_taken b e u el ei = rw (e, el, ei) u
-
-pub wrote_left : {l l₂ : List ℕ} {i i₂ : ℕ} (a : List ℕ) (b : Bool) → b ≡ false → l₂ ≡ l → i₂ ≡ i → Wrote l i (cond b a []) l₂ i₂
-wrote_left a b e el ei = rw (e, el, ei) (nothing_wrote _ _)
 
 -- IN A LOOP: the parts of 0, 1, 2 and so on
 pub joined_none : (l : List ℕ) (j : ℕ) (part : ℕ → List ℕ) → Wrote l j (joined 0 part) l j

@@ -24,6 +24,6 @@ said {l} {l₁} {r} k room wrote =
 
 pub returns : goal.returns
 returns c =
-    let byte = c.wide in
-    let says = said c.args.number c.requires (rw byte.ensures.value at c.write_number_line.ensures) in
+    let byte = c.from in
+    let says = said c.args.number c.requires (rw byte.ensures at c.write_number_line.ensures) in
     record { prefix_len = says.0; line_after = says.1 }

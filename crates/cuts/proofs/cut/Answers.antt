@@ -7,9 +7,9 @@ use Rattle.cuts.proofs.LawsCuts.{cut_first, cut_second, cut_neither, is_kept_lem
 use Rattle.cuts.proofs.cut.Goals as goal
 
 pub trial-first-requires : goal.trial-first-requires
-trial-first-requires c = let some : 0 < c.args.n = omega arith in
-    let inside : c.first_on.result < c.args.n = rw c.first_on.ensures (first_inside _ _ some) in
-    omega (arith, c.requires)
+trial-first-requires c = let some : 0 < c.args.n.count = omega arith in
+    let inside : c.first_on.result < c.args.n.count = rw c.first_on.ensures (first_inside _ _ some) in
+    omega (arith, c.args.n.few)
 
 pub returns-then-none_emptied : goal.returns-then-none_emptied
 returns-then-none_emptied c =

@@ -1,20 +1,13 @@
-use mathlib.Core.Path.{◌≡◌, sym, ◌∙◌}
-use native.Mathlib.Omega.{arith}
+-- Whether no list is empty but those of joints set aside.
+use Rattle.std.proofs.Common.{rules, ◌||◌, eqb, leb, get_or}
+use Rattle.std.proofs.iter.runs.Sources.{ranges}
+use Rattle.base.proofs.Chains.{all_told}
+use Rattle.roommates.specs.Lists.{row, list_length}
 use Rattle.roommates.specs.PhaseTwo.{none_emptied}
-use Rattle.base.proofs.Tests.{said_yes, said_no}
-use Rattle.base.proofs.AllBelow.{all_zero_lem, all_fails, all_same}
 use Rattle.cuts.proofs.none_emptied.Goals as goal
-use Rattle.cuts.proofs.none_emptied.Goals.{else-not-holds_one, then-not-holds_one}
-
-pub loop-i-init : goal.loop-i-init
-loop-i-init c = (omega arith, sym (all_zero_lem _))
-
-pub loop-i-preserved : goal.loop-i-preserved
-loop-i-preserved c = (elim c.if-not-holds_one.branch [
-  | then-not-holds_one w ↦ (omega arith, w.all-is ∙ all_fails _ _ (said_no c.holds_one.ensures w.if-not-holds_one.true))
-  | else-not-holds_one w ↦ (omega arith, w.all-is ∙ all_same _ _ c.loop-i.invariant.1 (said_yes c.holds_one.ensures w.if-not-holds_one.false))
-])
 
 pub returns : goal.returns
 unfolding none_emptied
-returns c = let e : c.loop-i.i ≡ c.args.n = omega arith in rw e at c.loop-i.invariant.1
+returns c =
+    let n = c.args.n.count in
+    all_told n (λ a. eqb (get_or c.args.aside.now a 0) 1 || leb 1 (list_length n (row c.args.bands.now a))) c.all.result (search (rules, ranges)) (search (rules, ranges))

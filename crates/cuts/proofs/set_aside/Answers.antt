@@ -1,5 +1,4 @@
-use mathlib.Core.Path.{◌≡◌, refl, ◌∙◌}
-use native.Mathlib.Omega.{arith}
+use mathlib.Core.Path.{refl, ◌∙◌}
 use Rattle.roommates.specs.PhaseTwo.{aside_below}
 use Rattle.cuts.proofs.LawsCuts.{aside_hit, aside_miss}
 use Rattle.cuts.proofs.set_aside.Goals as goal
@@ -7,13 +6,10 @@ use Rattle.cuts.proofs.set_aside.Goals.{else-list_length-eq0, then-list_length-e
 
 pub loop-i-init : goal.loop-i-init
 unfolding aside_below
-loop-i-init c = (omega arith, refl)
+loop-i-init c = refl
 
 pub loop-i-preserved : goal.loop-i-preserved
 loop-i-preserved c = (elim c.if-list_length-eq0.branch [
-  | then-list_length-eq0 w ↦ (omega arith, w.aside-is ∙ aside_hit _ _ _ c.loop-i.invariant.1 c.list_length.ensures w.if-list_length-eq0.true)
-  | else-list_length-eq0 w ↦ (omega arith, w.aside-is ∙ aside_miss _ _ _ c.loop-i.invariant.1 c.list_length.ensures w.if-list_length-eq0.false)
+  | then-list_length-eq0 w ↦ w.aside-is ∙ aside_hit _ _ _ c.loop-i.invariant c.list_length.ensures w.if-list_length-eq0.true
+  | else-list_length-eq0 w ↦ w.aside-is ∙ aside_miss _ _ _ c.loop-i.invariant c.list_length.ensures w.if-list_length-eq0.false
 ])
-
-pub returns : goal.returns
-returns c = let e : c.loop-i.i ≡ c.args.n = omega arith in cc

@@ -41,11 +41,11 @@ third c =
 
 -- how long the lines are
 abbrev label : After-count_paired-paired → ℕ → List ℕ
-label c = label_at c.args.sheet.now c.args.labels
+label c = label_at c.args.opened.bytes.now c.args.opened.labels
 
 lines : (c : After-count_paired-paired)
     → length (joined (length (M c)) (pair_part (label c) (M c))) + length (joined (length (M c)) (alone_part (label c) (M c))) ≤ 34 * length (M c)
-lines c = lines_short (label c) (labels_short c.args.sheet.now c.args.labels) (M c) (length (M c))
+lines c = lines_short (label c) (labels_short c.args.opened.bytes.now c.args.opened.labels) (M c) (length (M c))
 
 pub write_number_line-first-requires : goal.write_number_line-first-requires
 write_number_line-first-requires c = let h = others (goal.at.write_number_line-first-requires c).After-count_paired-paired in omega arith
@@ -89,6 +89,3 @@ unfolding pairing_text
 returns c =
     wrote_append (first (goal.at.returns c).After-write_number_line-first)
     (wrote_append c.write_pairs-second.ensures (wrote_append (third (goal.at.returns c).After-write_number_line-third) c.write_alone.ensures))
-
-pub shape_of-out : goal.shape_of-out
-shape_of-out c = wrote_length (returns c)

@@ -1,37 +1,19 @@
-use mathlib.Core.Path.{◌≡◌, sym}
-use native.Mathlib.Omega.{arith}
-use lib.ListN.{length}
+use Rattle.std.proofs.Common.{rules}
+use Rattle.std.proofs.iter.runs.Sources.{ranges}
 use borrow.Author.Tests.{eq-eqb, ne_eqb}
-use Rattle.base.proofs.AllBelow.{all_zero_lem, all_next, all_miss}
-use Rattle.base.proofs.Tests.{said_yes, said_no}
-use Rattle.matching.specs.Matchings.{is_matching}
+use Rattle.base.proofs.Chains.{all_seen}
+use Rattle.matching.specs.Matchings.{is_placed, is_matching}
 use Rattle.matching.proofs.is_matching.Goals as goal
-use Rattle.matching.proofs.is_matching.Goals.{Else-pairing-joints}
 
-as_many : (c : Else-pairing-joints) → length c.args.pairing.now ≡ c.args.joints
-as_many c = omega arith
-
-pub returns-then-pairing-joints : goal.returns-then-pairing-joints
+pub returns-then-pairing-n : goal.returns-then-pairing-n
 unfolding is_matching
-returns-then-pairing-joints c =
-    let other : length c.args.pairing.now ≡ c.args.joints → ⊥ = omega arith in
-    rw (ne_eqb _ _ other)
+returns-then-pairing-n c =
+    let a = c.args in
+    let n = a.n.count in
+    rw (eq-eqb _ _ c.if-pairing-n.true)
+    (all_seen n (is_placed n a.bands.now a.pairing.now) c.all.ensures.runs.0.at c.all.result
+    (search (rules, ranges)) (search (rules, ranges)) (search (rules, ranges)))
 
-pub loop-a-init : goal.loop-a-init
-loop-a-init c = (omega arith, all_zero_lem _)
-
-pub returns-then-not-is_placed : goal.returns-then-not-is_placed
+pub returns-else-pairing-n : goal.returns-else-pairing-n
 unfolding is_matching
-returns-then-not-is_placed c =
-    rw (eq-eqb _ _ (as_many (goal.at.returns-then-not-is_placed c).Else-pairing-joints))
-    (sym (all_miss _ _ _ c.loop-a-test.true (said_no c.is_placed.ensures c.if-not-is_placed.true)))
-
-pub loop-a-preserved : goal.loop-a-preserved
-loop-a-preserved c =
-    (omega arith, all_next _ _ c.loop-a.invariant.1 (said_yes c.is_placed.ensures c.if-not-is_placed.false))
-
-pub returns : goal.returns
-unfolding is_matching
-returns c =
-    let e : c.loop-a.a ≡ c.args.joints = omega arith in
-    rw (eq-eqb _ _ (as_many (goal.at.returns c).Else-pairing-joints)) (sym (rw e at c.loop-a.invariant.1))
+returns-else-pairing-n c = rw (ne_eqb _ _ c.if-pairing-n.false)

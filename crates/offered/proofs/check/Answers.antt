@@ -1,22 +1,32 @@
--- A refused sheet's number, or what its joints and lists give.
-use Rattle.sheet.proofs.ReadAs.{lists_as, lists_refused}
+-- A refused sheet's refusal, or what its joints and lists give.
+use Rattle.std.proofs.Common.{rules, ◌≡◌, Err, sym, ◌∙◌}
+use native.Mathlib.Omega.{arith}
+use Rattle.sheet.specs.Square.{square_of}
+use Rattle.sheet.proofs.Accepted.{accepted}
+use Rattle.sheet.proofs.ReadAs.{ReadAs, read_as, square_filled}
 use Rattle.offered.proofs.LawsChecks.{check_read, check_refused}
 use Rattle.offered.proofs.check.Goals as goal
+use Rattle.offered.proofs.check.Goals.{In_ok-parts}
 
-pub offer-requires : goal.offer-requires
-offer-requires c =
-    let l = c.lists-found in
-    let known = lists_as _ l.ensures.value _ l.ensures.bands_after c.in-Accepted.is in
-    known.promise.few_joints
+parts : (c : In_ok-parts) → ReadAs c.args.sheet.now c.in_ok-parts.parts
+parts c = read_as c.args.sheet.now c.in_ok-parts.parts (sym c.lists.ensures.value ∙ c.in_ok-parts.was)
 
-pub returns-in-Refused : goal.returns-in-Refused
-returns-in-Refused c =
-    let a = c.args in
-    let r = lists_refused _ c.lists-found.ensures.value c.in-Refused.is in
-    check_refused a.sheet.now a.pairing.now r
+filled : (c : In_ok-parts) → c.lists.new.bands ≡ square_of c.args.sheet.now
+filled c = c.lists.ensures.bands_after ∙ square_filled c.args.sheet.now _ (parts c).faultless
 
-pub returns-in-Accepted : goal.returns-in-Accepted
-returns-in-Accepted c =
-    let a = c.args in
-    let known = lists_as _ c.lists-found.ensures.value _ c.lists-found.ensures.bands_after c.in-Accepted.is in
-    check_read a.sheet.now _ _ known a.pairing.now c.offer.ensures
+pub returns-in_err-parts : goal.returns-in_err-parts
+returns-in_err-parts c =
+    let same : c.from_residual.result ≡ Err c.in_err-parts.field-0.0 = search rules in
+    same ∙ check_refused c.args.sheet.now c.args.pairing.now _ (sym c.lists.ensures.value ∙ c.in_err-parts.was)
+
+pub invariant_of-joints : goal.invariant_of-joints
+invariant_of-joints c =
+    let at = (goal.at.invariant_of-joints c).In_ok-parts in
+    let few = (accepted c.args.sheet.now (parts at).faultless).few_joints in
+    let e = (parts at).n_joints in
+    record { few = omega arith }
+
+pub returns : goal.returns
+returns c =
+    let at = (goal.at.returns c).In_ok-parts in
+    check_read c.args.sheet.now c.in_ok-parts.parts c.lists.new.bands (parts at) (filled at) c.args.pairing.now c.offer.ensures

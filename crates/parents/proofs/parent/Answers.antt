@@ -5,4 +5,4 @@ use Rattle.parents.proofs.parent.Goals as goal
 
 pub returns : goal.returns
 returns c =
-    c.wide.ensures.value ∙ get_d_inside c.args.parents.now c.args.joint 0 255 c.requires
+    c.from.ensures ∙ get_d_inside c.args.parents.now c.args.joint 0 255 c.requires

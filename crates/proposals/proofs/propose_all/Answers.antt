@@ -1,5 +1,4 @@
-use mathlib.Core.Path.{◌≡◌, refl, ◌∙◌}
-use native.Mathlib.Omega.{arith}
+use mathlib.Core.Path.{refl, ◌∙◌}
 use Rattle.roommates.specs.PhaseOne.{propose_all}
 use Rattle.proposals.proofs.LawsProposals.{propose_hit, propose_miss}
 use Rattle.proposals.proofs.propose_all.Goals as goal
@@ -7,13 +6,10 @@ use Rattle.proposals.proofs.propose_all.Goals.{else-list-i, then-list-i}
 
 pub loop-i-init : goal.loop-i-init
 unfolding propose_all
-loop-i-init c = (omega arith, refl)
+loop-i-init c = refl
 
 pub loop-i-preserved : goal.loop-i-preserved
 loop-i-preserved c = (elim c.if-list-i.branch [
-  | then-list-i w ↦ (omega arith, w.bands-is ∙ w.propose.ensures ∙ propose_hit _ _ _ _ _ _ _ c.loop-i.invariant.1 w.if-list-i.true)
-  | else-list-i w ↦ (omega arith, w.bands-is ∙ propose_miss _ _ _ _ _ _ _ c.loop-i.invariant.1 w.if-list-i.false)
+  | then-list-i w ↦ w.bands-is ∙ w.propose.ensures ∙ propose_hit _ _ _ _ _ _ _ c.loop-i.invariant w.if-list-i.true
+  | else-list-i w ↦ w.bands-is ∙ propose_miss _ _ _ _ _ _ _ c.loop-i.invariant w.if-list-i.false
 ])
-
-pub returns : goal.returns
-returns c = let e : c.loop-i.i ≡ c.args.n = omega arith in cc

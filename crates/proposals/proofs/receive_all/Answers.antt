@@ -1,5 +1,4 @@
-use mathlib.Core.Path.{◌≡◌, refl, ◌∙◌}
-use native.Mathlib.Omega.{arith}
+use mathlib.Core.Path.{refl, ◌∙◌}
 use Rattle.roommates.specs.PhaseOne.{receive_all}
 use Rattle.proposals.proofs.LawsProposals.{receive_hit, receive_miss}
 use Rattle.proposals.proofs.receive_all.Goals as goal
@@ -7,13 +6,10 @@ use Rattle.proposals.proofs.receive_all.Goals.{else-list-i, then-list-i}
 
 pub loop-i-init : goal.loop-i-init
 unfolding receive_all
-loop-i-init c = (omega arith, refl)
+loop-i-init c = refl
 
 pub loop-i-preserved : goal.loop-i-preserved
 loop-i-preserved c = (elim c.if-list-i.branch [
-  | then-list-i w ↦ (omega arith, w.received-is ∙ receive_hit _ _ _ _ c.loop-i.invariant.1 w.if-list-i.true)
-  | else-list-i w ↦ (omega arith, w.received-is ∙ receive_miss _ _ _ _ c.loop-i.invariant.1 w.if-list-i.false)
+  | then-list-i w ↦ w.received-is ∙ receive_hit _ _ _ _ c.loop-i.invariant w.if-list-i.true
+  | else-list-i w ↦ w.received-is ∙ receive_miss _ _ _ _ c.loop-i.invariant w.if-list-i.false
 ])
-
-pub returns : goal.returns
-returns c = let e : c.loop-i.i ≡ c.args.n = omega arith in rw (← e) c.loop-i.invariant.1

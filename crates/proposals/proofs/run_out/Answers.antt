@@ -5,4 +5,4 @@ use Rattle.roommates.specs.PhaseOne.{nobody}
 use Rattle.proposals.proofs.run_out.Goals as goal
 
 pub returns : goal.returns
-returns c = ap (λ w. w.lists) (c.run_on.ensures Proposing nobody 0)
+returns c = rw c.nothing_made-made.ensures at (ap (λ w. w.lists) (c.run_on.ensures Proposing nobody 0))

@@ -1,9 +1,6 @@
--- The loop stands before record i.
-use Prim.Native.Nat.{◌≤◌}
+-- Each record met leaves fewer.
+use Rattle.std.proofs.Common.{length}
 use Rattle.replay.proofs.standing.Given as goal
 
-abbrev pub invariant-loop-i : goal.invariant-loop-i
-invariant-loop-i l = l.i ≤ 32
-
-abbrev pub decreases-loop-i : goal.decreases-loop-i
-decreases-loop-i l = l.i
+abbrev pub decreases-loop-last : goal.decreases-loop-last
+decreases-loop-last l = length l.rest

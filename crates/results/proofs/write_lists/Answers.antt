@@ -1,30 +1,29 @@
 -- The shortened lists: the count's two bytes, then the entries.
-use native.Mathlib.Nat.{mul-le-mul}
-use native.Mathlib.Omega.{arith}
+use Rattle.std.proofs.Common.{◌/◌, ◌%◌, [], ◌∷◌, arith}
+use Rattle.writing.specs.Written.{Wrote}
 use Rattle.writing.proofs.Writings.{wrote_append, wrote_length}
-use Rattle.roommates.proofs.EntryCounts.{entries_bound}
 use Rattle.roommates.proofs.EntriesWritten.{entries_length}
-use Rattle.results.proofs.LawsResults.{lists_wrote}
+use Rattle.results.proofs.LawsResults.{count_small, count_bytes, lists_wrote}
 use Rattle.results.proofs.write_lists.Goals as goal
+use Rattle.results.proofs.write_lists.Goals.{After-write_word-third}
 
-pub overflow_cast-count-2 : goal.overflow_cast-count-2
-overflow_cast-count-2 c =
-    let few = c.requires.0 in
-    omega (arith, c.count_entries-count.ensures, entries_bound c.args.n c.args.bands.now, mul-le-mul few few)
+head : (c : After-write_word-third) → Wrote c.args.out.now 0 ((c.count_entries-count.result % 256) ∷ ((c.count_entries-count.result / 256) ∷ []))
+    c.write_word-third.new.out c.write_word-third.result
+head c = rw (count_bytes _ (count_small c.args.n.count c.args.bands.now c.args.n.few c.count_entries-count.ensures) c.to_le_bytes.ensures) at c.write_word-third.ensures
 
-pub put-third-requires : goal.put-third-requires
-put-third-requires c = let l = wrote_length c.put-second.ensures in omega arith
+pub overflow_cast-count : goal.overflow_cast-count
+overflow_cast-count c = let small = count_small c.args.n.count c.args.bands.now c.args.n.few c.count_entries-count.ensures in omega arith
 
 pub write_rows-requires : goal.write_rows-requires
 write_rows-requires c =
-    let both = wrote_append c.put-second.ensures c.put-third.ensures in
-    let l = wrote_length both in
-    let place = both.behind in
-    let long = entries_length c.args.n c.args.bands.now in
-    (c.requires.0, omega (arith, c.requires.1))
+    let w = head (goal.at.write_rows-requires c).After-write_word-third in
+    let l = wrote_length w in
+    let place = w.behind in
+    let long = entries_length c.args.n.count c.args.bands.now in
+    omega (arith, c.requires)
 
 pub returns : goal.returns
 returns c =
     let count = c.count_entries-count.ensures in
-    let all = wrote_append (wrote_append c.put-second.ensures c.put-third.ensures) c.write_rows.ensures in
-    record { value = count; out_after = lists_wrote c.args.n c.args.bands.now count c.requires.1 all }
+    let all = wrote_append (head (goal.at.returns c).After-write_word-third) c.write_rows.ensures in
+    record { value = count; out_after = lists_wrote c.args.n.count c.args.bands.now count c.requires all }

@@ -1,6 +1,6 @@
 -- The pairing, byte by byte.
 use mathlib.Core.List.{List, [], ◌∷◌}
-use Prim.Native.Nat.{ℕ, ◌-◌, ◌≤◌}
+use Prim.Native.Nat.{ℕ}
 use Rattle.base.specs.Below.{joined}
 use Rattle.writing.specs.Written.{Wrote}
 use Rattle.roommates.specs.Lists.{Square, row}
@@ -11,7 +11,4 @@ abbrev pub byte : ℕ → Square → ℕ → List ℕ
 byte n t a = partner_on n (row t a) ∷ []
 
 abbrev pub invariant-loop-a : goal.invariant-loop-a
-invariant-loop-a l = (l.a ≤ l.n) × Wrote l.initial.out 0 (joined l.a (byte l.n l.bands)) l.out l.a
-
-abbrev pub decreases-loop-a : goal.decreases-loop-a
-decreases-loop-a l = l.n - l.a
+invariant-loop-a l = Wrote l.initial.out 0 (joined l.a (byte l.n.count l.bands)) l.out l.a

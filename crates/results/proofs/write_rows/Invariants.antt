@@ -1,6 +1,6 @@
 -- All entries, joint by joint.
 use mathlib.Core.List.{List}
-use Prim.Native.Nat.{ℕ, ◌-◌, ◌≤◌}
+use Prim.Native.Nat.{ℕ}
 use Rattle.base.specs.Below.{joined}
 use Rattle.writing.specs.Written.{Wrote}
 use Rattle.roommates.specs.Lists.{Square, row}
@@ -11,7 +11,4 @@ abbrev pub rows : ℕ → Square → ℕ → List ℕ
 rows n t a = row_entries n a (row t a)
 
 abbrev pub invariant-loop-a : goal.invariant-loop-a
-invariant-loop-a l = (l.a ≤ l.n) × Wrote l.initial.out l.at (joined l.a (rows l.n l.bands)) l.out l.next
-
-abbrev pub decreases-loop-a : goal.decreases-loop-a
-decreases-loop-a l = l.n - l.a
+invariant-loop-a l = Wrote l.initial.out l.at (joined l.a (rows l.n.count l.bands)) l.out l.next

@@ -1,21 +1,15 @@
-use native.Mathlib.Omega.{arith}
-use Rattle.base.proofs.Argmax.{argmax_starts, argmax_next, argmax_same, argmax_ends}
+-- The joint with the longest list.
+use Rattle.std.proofs.Common.{rules, refl, ◌∙◌, ℕ, arith}
+use Rattle.std.proofs.lemmas.Iterator.{YieldsList-from_range}
+use Rattle.roommates.specs.Lists.{row, list_length}
 use Rattle.roommates.specs.PhaseTwo.{longest_list}
+use Rattle.ruling.proofs.LastGreatest.{last_greatest}
 use Rattle.ruling.proofs.longest_list.Goals as goal
-use Rattle.ruling.proofs.longest_list.Goals.{else-longest-length, then-longest-length}
-
-pub loop-x-init : goal.loop-x-init
-loop-x-init c = (omega arith, (argmax_starts _, c.list_length-longest.ensures))
-
-pub loop-x-preserved : goal.loop-x-preserved
-loop-x-preserved c =
-    let turn = c.loop-x.invariant.1 in
-    let length = c.list_length-length.ensures in
-    (elim c.if-longest-length.branch [
-      | then-longest-length w ↦ (omega arith, argmax_next _ _ turn.0 turn.1 length w.best-is w.longest-is (omega (arith, w.if-longest-length.true)))
-      | else-longest-length w ↦ (omega arith, argmax_same _ _ turn.0 turn.1 length w.best-is w.longest-is (omega (arith, w.if-longest-length.false)))
-    ])
 
 pub returns : goal.returns
 unfolding longest_list
-returns c = argmax_ends _ _ _ c.loop-x.invariant.1.0 (omega arith) (omega arith)
+returns c =
+    let n = c.args.n.count in
+    let key : ℕ → ℕ = λ x. list_length n (row c.args.bands.now x) in
+    c.unwrap_or.ensures
+    ∙ last_greatest _ _ key (λ x k q h. search rules) _ n c.max_by_key.result c.max_by_key.ensures.ran (YieldsList-from_range 0 n n refl (omega arith))

@@ -1,17 +1,18 @@
-use mathlib.Core.Path.{sym, ◌∙◌}
-use native.Mathlib.Omega.{arith}
-use native.Mathlib.Nat.{sub-zero}
-use Rattle.base.proofs.Lowest.{lowest_hit, lowest_miss, lowest_none}
+-- The lowest joint that waits.
+use Rattle.std.proofs.Common.{rules, ◌≡◌, ◌∙◌, ap, Bool, ℕ, get_or}
+use Rattle.std.proofs.iter.runs.Sources.{ranges}
+use Rattle.std.specs.Option.{unwrap_or}
+use Rattle.base.specs.Below.{first_below}
+use Rattle.base.proofs.Chains.{first_told}
+use Rattle.lists.proofs.LawsFirst.{first_or_all}
+use Rattle.roommates.specs.Lists.{row}
+use Rattle.roommates.specs.PhaseOne.{list_waits}
 use Rattle.ruling.proofs.lowest_waiting.Goals as goal
 
-pub loop-p-init : goal.loop-p-init
-loop-p-init c = (omega arith, rw sub-zero)
-
-pub returns-then-list_waits : goal.returns-then-list_waits
-returns-then-list_waits c = lowest_hit _ _ _ (omega arith) c.loop-p.invariant.1 (sym c.list_waits.ensures ∙ c.if-list_waits.true)
-
-pub loop-p-preserved : goal.loop-p-preserved
-loop-p-preserved c = (omega arith, lowest_miss _ _ _ (omega arith) c.loop-p.invariant.1 (sym c.list_waits.ensures ∙ c.if-list_waits.false))
-
 pub returns : goal.returns
-returns c = lowest_none _ _ _ (omega arith) (omega arith) c.loop-p.invariant.1
+returns c =
+    let n = c.args.n.count in
+    let test : ℕ → Bool = λ p. list_waits n (get_or c.args.reach.now p 0) (row c.args.bands.now p) in
+    let found : c.find.result ≡ first_below n test = first_told n test c.find.result
+    (search (rules, ranges)) (search (rules, ranges)) (search (rules, ranges)) (search (rules, ranges)) in
+    c.unwrap_or.ensures ∙ ap (λ (r : _). unwrap_or r n) found ∙ first_or_all n test

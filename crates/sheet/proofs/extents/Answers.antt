@@ -1,103 +1,122 @@
 -- Each way out of `extents` is a law of its own; the places are named where a fact is first known.
-use lib.ListN.{length, drop}
-use mathlib.Core.Path.{◌≡◌, ap, ◌∙◌}
-use mathlib.Core.List.{List}
-use Prim.Native.Nat.{ℕ, ◌+◌, ◌*◌, ◌≤◌}
+use Rattle.std.proofs.Common.{rules, ◌≡◌, List, ℕ, ◌+◌, ◌*◌, ◌≤◌, length, drop, Err, refl, sym, ap, ◌∙◌}
 use native.Mathlib.Omega.{arith}
+use Rattle.base.proofs.Places.{rest_is}
+use Rattle.refusals.specs.declared.Refusal.TheVariants.{SheetCutShort, TooManyJoints}
+use Rattle.refusals.specs.Numbers.{answered}
+use Rattle.refusals.proofs.Numbers.{answered_refused, value_answered, refusal_answered, some_answered}
 use Rattle.sections.specs.Labels.{label_width, labels_fault}
-use Rattle.sections.specs.Readings.{labels_reading}
-use Rattle.sections.proofs.SectionLaws.{section_read, section_refused}
-use Rattle.parents.specs.Parents.{extent_fault, extent_reading}
+use Rattle.sections.proofs.Numbers.{labels_is_fault}
+use Rattle.parents.specs.Parents.{extent_fault}
+use Rattle.parents.proofs.ThirdLaws.{extent_is_fault}
 use Rattle.sheet.specs.Format.{joints, labels_part, rank_count, rank_start, rank_end, third}
 use Rattle.sheet.specs.Refusals.{extents_fault}
-use Rattle.base.proofs.Places.{rest_is}
-use Rattle.sheet.proofs.SheetLaws.{refused_as, accepted_as, no_joints_lem, many_joints, bad_labels, no_count, cut_short, by_third}
+use Rattle.sheet.specs.Readings.{parts_of}
+use Rattle.sheet.proofs.SheetLaws.{accepted_as, no_joints_lem, many_joints, bad_labels, no_count, cut_short, by_third}
 use Rattle.sheet.proofs.extents.Goals as goal
-use Rattle.sheet.proofs.extents.Goals.{After-count_at-m, After-parents_extent-third, After-read_labels-found, Else-n-gt128, Else-sheet-end, Else-sheet-start, In-Read}
+use Rattle.sheet.proofs.extents.Goals.{After-read_labels, After-count_at-m, After-parents_extent, Else-sheet-start, Else-sheet-end, In_ok-n, In_ok-size}
 
 -- WHERE THE JOINTS ARE FEW: the sheet, and what is known of it
-abbrev sheet : Else-n-gt128 → List ℕ
+abbrev sheet : In_ok-n → List ℕ
 sheet c = c.args.sheet.now
 
-some : (c : Else-n-gt128) → length (sheet c) ≡ 0 → ⊥
+some : (c : In_ok-n) → length (sheet c) ≡ 0 → ⊥
 some c = c.if-sheet-eq0.false
 
-few : (c : Else-n-gt128) → joints (sheet c) ≤ 128
-few c = let e = c.wide-n.ensures.value in omega (arith, c.if-n-gt128.false)
+count : (c : In_ok-n) → c.in_ok-n.n.count ≡ joints (sheet c)
+count c = c.in_ok-n.ensures
 
-labels_are : (c : After-read_labels-found)
-    → let at_n_gt128 = (goal.at.After-read_labels-found c).Else-n-gt128 in c.read_labels-found.result ≡ labels_reading (joints (sheet at_n_gt128)) (labels_part (sheet at_n_gt128))
-labels_are c = rw (← c.wide-n.ensures.value, ← rest_is _ _) c.read_labels-found.ensures
+few : (c : In_ok-n) → joints (sheet c) ≤ 128
+few c = let h = c.in_ok-n.n.few in omega (arith, count c)
 
-labels_read : (c : In-Read)
-    → let at_n_gt128 = (goal.at.In-Read c).Else-n-gt128 in
-    (labels_fault (joints (sheet at_n_gt128)) (labels_part (sheet at_n_gt128)) ≡ 0) × (c.in-Read.size ≡ label_width * joints (sheet at_n_gt128))
-labels_read c = section_read _ _ (labels_are (goal.at.In-Read c).After-read_labels-found) c.in-Read.is
+labels_are : (c : After-read_labels)
+    → let at = (goal.at.After-read_labels c).In_ok-n in c.read_labels.result ≡ answered (labels_fault (joints (sheet at)) (labels_part (sheet at))) (label_width * joints (sheet at))
+labels_are c = rw (← count (goal.at.After-read_labels c).In_ok-n, ← rest_is _ _) c.read_labels.ensures
+
+labels_read : (c : In_ok-size)
+    → let at = (goal.at.In_ok-size c).In_ok-n in
+    (labels_fault (joints (sheet at)) (labels_part (sheet at)) ≡ 0) × (label_width * joints (sheet at) ≡ c.in_ok-size.size)
+labels_read c =
+    let at = goal.at.In_ok-size c in
+    value_answered _ _ _ (labels_is_fault (joints (sheet at.In_ok-n)) (labels_part (sheet at.In_ok-n))) (sym (labels_are at.After-read_labels) ∙ c.in_ok-size.was)
 
 -- WHERE THE ENTRIES ARE COUNTED
-counted : (c : Else-sheet-start) → let at_n_gt128 = (goal.at.Else-sheet-start c).Else-n-gt128 in rank_start (sheet at_n_gt128) ≤ length (sheet at_n_gt128)
-counted c = rw (← (labels_read (goal.at.Else-sheet-start c).In-Read).1) c.if-sheet-start.false
+counted : (c : Else-sheet-start) → let s = sheet (goal.at.Else-sheet-start c).In_ok-n in rank_start s ≤ length s
+counted c = rw ((labels_read (goal.at.Else-sheet-start c).In_ok-size).1) c.if-sheet-start.false
 
-count_is : (c : After-count_at-m) → c.count_at-m.result ≡ rank_count (sheet (goal.at.After-count_at-m c).Else-n-gt128)
-count_is c = rw (← (labels_read (goal.at.After-count_at-m c).In-Read).1) c.count_at-m.ensures.value
+count_is : (c : After-count_at-m) → c.count_at-m.result ≡ rank_count (sheet (goal.at.After-count_at-m c).In_ok-n)
+count_is c = rw ((labels_read (goal.at.After-count_at-m c).In_ok-size).1) c.count_at-m.ensures.value
 
 abbrev whole : Else-sheet-end → List ℕ
-whole c = sheet (goal.at.Else-sheet-end c).Else-n-gt128
+whole c = sheet (goal.at.Else-sheet-end c).In_ok-n
 
 -- where they end, as the code has it
 abbrev end : Else-sheet-end → ℕ
-end c = 1 + c.in-Read.size + 2 + 3 * c.count_at-m.result
+end c = 1 + c.in_ok-size.size + 2 + 3 * c.count_at-m.result
 
 end_is : (c : Else-sheet-end) → end c ≡ rank_end (whole c)
-end_is c = let size = (labels_read (goal.at.Else-sheet-end c).In-Read).1 in let count = count_is (goal.at.Else-sheet-end c).After-count_at-m in omega arith
+end_is c =
+    let at = goal.at.Else-sheet-end c in
+    let size = (labels_read at.In_ok-size).1 in let count = count_is at.After-count_at-m in omega arith
 
 reaches : (c : Else-sheet-end) → rank_end (whole c) ≤ length (whole c)
 reaches c = let e = end_is c in omega (arith, c.if-sheet-end.false)
 
 -- the third section's extent, and what it decides
-extent_is : (c : After-parents_extent-third) → c.parents_extent-third.result ≡ extent_reading (third (whole (goal.at.After-parents_extent-third c).Else-sheet-end))
+extent_is : (c : After-parents_extent)
+    → let s = whole (goal.at.After-parents_extent c).Else-sheet-end in c.parents_extent.result ≡ answered (extent_fault (third s)) (length (third s))
 extent_is c =
-    let at_sheet_end = (goal.at.After-parents_extent-third c).Else-sheet-end in
-    c.parents_extent-third.ensures ∙ ap extent_reading (rest_is (end at_sheet_end) (whole at_sheet_end) ∙ ap (λ (k : ℕ). drop k (whole at_sheet_end)) (end_is at_sheet_end))
+    let at = (goal.at.After-parents_extent c).Else-sheet-end in
+    c.parents_extent.ensures
+    ∙ ap (λ (l : List ℕ). answered (extent_fault l) (length l)) (rest_is (end at) (whole at) ∙ ap (λ (k : ℕ). drop k (whole at)) (end_is at))
 
 decided : (c : Else-sheet-end) (k : ℕ) → extent_fault (third (whole c)) ≡ k → extents_fault (whole c) ≡ k
 decided c =
-    let at_n_gt128 = (goal.at.Else-sheet-end c).Else-n-gt128 in
-    by_third (whole c) (some at_n_gt128) (few at_n_gt128) (labels_read (goal.at.Else-sheet-end c).In-Read).0 (counted (goal.at.Else-sheet-end c).Else-sheet-start) (reaches c)
+    let at = goal.at.Else-sheet-end c in
+    by_third (whole c) (some at.In_ok-n) (few at.In_ok-n) (labels_read at.In_ok-size).0 (counted at.Else-sheet-start) (reaches c)
 
 pub returns-then-sheet-eq0 : goal.returns-then-sheet-eq0
-returns-then-sheet-eq0 c = refused_as c.args.sheet.now _ 1 (no_joints_lem _ c.if-sheet-eq0.true) (λ z. omega arith)
+returns-then-sheet-eq0 c =
+    let s = c.args.sheet.now in answered_refused (parts_of s) (extents_fault s) SheetCutShort (sym (no_joints_lem s c.if-sheet-eq0.true))
 
-pub returns-then-n-gt128 : goal.returns-then-n-gt128
-returns-then-n-gt128 c =
-    let e = c.wide-n.ensures.value in
-    refused_as c.args.sheet.now _ 2 (many_joints _ c.if-sheet-eq0.false (omega arith)) (λ z. omega arith)
+pub returns-in_err-n : goal.returns-in_err-n
+returns-in_err-n c =
+    let s = c.args.sheet.now in
+    let told = c.in_err-n.ensures in
+    let refused = answered_refused (parts_of s) (extents_fault s) TooManyJoints (sym (many_joints s c.if-sheet-eq0.false told.1)) in
+    let same : c.from_residual.result ≡ Err c.in_err-n.field-0.0 = search rules in
+    same ∙ ap Err told.0 ∙ refused
 
-pub returns-in_default : goal.returns-in_default
-returns-in_default c =
-    let at_n_gt128 = (goal.at.returns-in_default c).Else-n-gt128 in
-    let (f, h) = section_refused _ _ (labels_are (goal.at.returns-in_default c).After-read_labels-found) c.in_default.is c.number.ensures in
-    refused_as c.args.sheet.now _ _ (bad_labels (sheet at_n_gt128) (some at_n_gt128) (few at_n_gt128) _ f h) h
+pub returns-in_err-size : goal.returns-in_err-size
+returns-in_err-size c =
+    let at = goal.at.returns-in_err-size c in
+    let s = c.args.sheet.now in
+    let told = sym (labels_are at.After-read_labels) ∙ c.in_err-size.was in
+    let bad = bad_labels s (some at.In_ok-n) (few at.In_ok-n) _ refl (some_answered _ _ _ told) in
+    let same : c.from_residual-in_err-size.result ≡ Err c.in_err-size.field-0.0 = search rules in
+    same ∙ answered_refused (parts_of s) (extents_fault s) _ (refusal_answered _ _ _ told ∙ sym bad)
 
 pub overflow_add-count : goal.overflow_add-count
-overflow_add-count c = let e = (labels_read c).1 in let f = few (goal.at.overflow_add-count c).Else-n-gt128 in omega arith
+overflow_add-count c = let e = (labels_read c).1 in let f = few (goal.at.overflow_add-count c).In_ok-n in omega arith
 
 pub overflow_add-start : goal.overflow_add-start
-overflow_add-start c = let e = (labels_read c).1 in let f = few (goal.at.overflow_add-start c).Else-n-gt128 in omega arith
+overflow_add-start c = let e = (labels_read c).1 in let f = few (goal.at.overflow_add-start c).In_ok-n in omega arith
 
 pub returns-then-sheet-start : goal.returns-then-sheet-start
 returns-then-sheet-start c =
-    let at_n_gt128 = (goal.at.returns-then-sheet-start c).Else-n-gt128 in
-    let (good, size) = labels_read (goal.at.returns-then-sheet-start c).In-Read in
-    refused_as c.args.sheet.now _ 1 (no_count (sheet at_n_gt128) (some at_n_gt128) (few at_n_gt128) good (rw (← size) c.if-sheet-start.true)) (λ z. omega arith)
+    let at = goal.at.returns-then-sheet-start c in
+    let s = c.args.sheet.now in
+    let (good, size) = labels_read at.In_ok-size in
+    answered_refused (parts_of s) (extents_fault s) SheetCutShort
+    (sym (no_count s (some at.In_ok-n) (few at.In_ok-n) good (rw size c.if-sheet-start.true)))
 
 pub returns-then-sheet-end : goal.returns-then-sheet-end
 returns-then-sheet-end c =
-    let at_n_gt128 = (goal.at.returns-then-sheet-end c).Else-n-gt128 in
-    let (good, size) = labels_read (goal.at.returns-then-sheet-end c).In-Read in
-    refused_as c.args.sheet.now _ 1 (cut_short (sheet at_n_gt128) (some at_n_gt128) (few at_n_gt128) good (counted (goal.at.returns-then-sheet-end c).Else-sheet-start)
-    (rw (← count_is (goal.at.returns-then-sheet-end c).After-count_at-m, ← size) c.if-sheet-end.true))
-    (λ z. omega arith)
+    let at = goal.at.returns-then-sheet-end c in
+    let s = c.args.sheet.now in
+    let (good, size) = labels_read at.In_ok-size in
+    answered_refused (parts_of s) (extents_fault s) SheetCutShort
+    (sym (cut_short s (some at.In_ok-n) (few at.In_ok-n) good (counted at.Else-sheet-start) (rw (← count_is at.After-count_at-m, size) c.if-sheet-end.true)))
 
 pub slice_bounds-parents_extent-count : goal.slice_bounds-parents_extent-count
 slice_bounds-parents_extent-count c = omega (arith, c.if-sheet-end.false)
@@ -105,16 +124,19 @@ slice_bounds-parents_extent-count c = omega (arith, c.if-sheet-end.false)
 pub slice_bounds-parents_extent-start : goal.slice_bounds-parents_extent-start
 slice_bounds-parents_extent-start c = omega (arith, c.if-sheet-end.false)
 
-pub returns-in_default-third : goal.returns-in_default-third
-returns-in_default-third c =
-    let (f, h) = section_refused _ _ (extent_is (goal.at.returns-in_default-third c).After-parents_extent-third) c.in_default-third.is c.number-in_default-third.ensures in
-    refused_as c.args.sheet.now _ _ (decided (goal.at.returns-in_default-third c).Else-sheet-end _ f) h
+pub returns-in_err-parents_extent : goal.returns-in_err-parents_extent
+returns-in_err-parents_extent c =
+    let at = goal.at.returns-in_err-parents_extent c in
+    let s = c.args.sheet.now in
+    let told = sym (extent_is at.After-parents_extent) ∙ c.in_err-parents_extent.was in
+    let same : c.from_residual-in_err-parents_extent.result ≡ Err c.in_err-parents_extent.field-0.0 = search rules in
+    same ∙ answered_refused (parts_of s) (extents_fault s) _ (refusal_answered _ _ _ told ∙ sym (decided at.Else-sheet-end _ refl))
 
 pub returns : goal.returns
 returns c =
-    let at_n_gt128 = (goal.at.returns c).Else-n-gt128 in
-    let at_sheet_end = (goal.at.returns c).Else-sheet-end in
-    let (good, size) = labels_read (goal.at.returns c).In-Read in
-    let start : 1 + c.in-Read.size + 2 ≡ rank_start (sheet at_n_gt128) = omega arith in
-    let (clean, long) = section_read _ _ (extent_is (goal.at.returns c).After-parents_extent-third) c.in-Read-third.is in
-    accepted_as (sheet at_n_gt128) c.wide-n.ensures.value (count_is (goal.at.returns c).After-count_at-m) start (end_is at_sheet_end) (decided at_sheet_end 0 clean)
+    let at = goal.at.returns c in
+    let s = c.args.sheet.now in
+    let (good, size) = labels_read at.In_ok-size in
+    let start : 1 + c.in_ok-size.size + 2 ≡ rank_start s = omega arith in
+    let (clean, long) = value_answered _ _ _ (extent_is_fault (third s)) (sym (extent_is at.After-parents_extent) ∙ c.in_ok-parents_extent.was) in
+    accepted_as s (count at.In_ok-n) (count_is at.After-count_at-m) start (end_is at.Else-sheet-end) (decided at.Else-sheet-end 0 clean)

@@ -1,96 +1,106 @@
 -- `lists` goes by the extents, the entries and the parents, and fills the square.
-use mathlib.Core.Path.{◌≡◌, sym, ap, subst, ◌∙◌}
-use mathlib.Core.List.{List}
-use Prim.Native.Nat.{ℕ, ◌-◌, ◌<◌}
+use Rattle.std.proofs.Common.{rules, ◌≡◌, List, ℕ, ◌-◌, ◌*◌, ◌<◌, length, take, drop, Err, refl, sym, ap, ◌∙◌, Result, Ok}
+use mathlib.Core.Path.{subst}
 use native.Mathlib.Omega.{arith}
-use lib.ListN.{length, take, drop}
-use Rattle.sections.specs.Entries.{entries_fault}
-use Rattle.sections.specs.Readings.{entries_reading}
-use Rattle.sections.proofs.SectionLaws.{section_read, section_refused}
+use Rattle.base.proofs.Places.{rest_is}
+use Rattle.refusals.specs.declared.Refusal.{Refusal}
+use Rattle.refusals.specs.Numbers.{number_of, answered}
+use Rattle.refusals.proofs.Numbers.{answered_none, answered_refused, value_answered, refusal_answered, some_answered}
+use Rattle.sections.specs.Entries.{entry_width, entries_fault}
 use Rattle.sections.proofs.EntryFaults.{entry_fits}
+use Rattle.sections.proofs.Numbers.{entries_is_fault}
 use Rattle.square.specs.Inside.{Inside}
+use Rattle.parents.specs.Parents.{parents_in, parents_fault}
+use Rattle.parents.proofs.ThirdLaws.{parents_is_fault}
 use Rattle.sheet.specs.declared.Parts.{Parts}
-use Rattle.sheet.specs.declared.Reading.TheVariants.{Accepted}
-use Rattle.parents.specs.Parents.{parents_fault, third_reading}
 use Rattle.sheet.specs.Format.{joints, rank_count, rankings_part, third}
 use Rattle.sheet.specs.Refusals.{sheet_fault, extents_fault}
 use Rattle.sheet.specs.Square.{square_of}
+use Rattle.sheet.specs.Readings.{parts_of, reading_of, square_in}
 use Rattle.sheet.proofs.Accepted.{Extents, extents_known, part_long, count_small}
-use Rattle.sheet.proofs.ReadAs.{ReadWith, read_with, refused_with}
-use Rattle.base.proofs.Places.{rest_is}
-use Rattle.sheet.proofs.SheetLaws.{bad_extents, bad_entries, by_parents, refused, all_read}
+use Rattle.sheet.proofs.ReadAs.{ReadWith, read_with, extents_is_fault, square_filled, square_kept}
+use Rattle.sheet.proofs.SheetLaws.{bad_extents, bad_entries, by_parents}
 use Rattle.sheet.proofs.lists.Goals as goal
-use Rattle.sheet.proofs.lists.Goals.{After-fill, After-read_entries-listed, After-read_third-third, In-Accepted, In-Read}
+use Rattle.sheet.proofs.lists.Goals.{After-fill, After-read_entries, After-read_third, In_ok-parts, In_ok-read_entries, In_ok-read_third}
 
 -- WHERE THE EXTENTS ARE KNOWN: the sheet, its parts, and what is known of them
-abbrev sheet : In-Accepted → List ℕ
+abbrev sheet : In_ok-parts → List ℕ
 sheet c = c.args.sheet.now
 
-abbrev parts : In-Accepted → Parts
-parts c = c.in-Accepted.parts
+abbrev parts : In_ok-parts → Parts
+parts c = c.in_ok-parts.parts
 
-read : (c : In-Accepted) → ReadWith (sheet c) (extents_fault (sheet c)) (parts c)
-read c = read_with (sheet c) (extents_fault (sheet c)) (parts c) (sym c.extents-found.ensures ∙ c.in-Accepted.is)
+read : (c : In_ok-parts) → ReadWith (sheet c) (extents_fault (sheet c)) (parts c)
+read c = read_with (sheet c) (extents_fault (sheet c)) (parts c) (extents_is_fault (sheet c)) (sym c.extents.ensures ∙ c.in_ok-parts.was)
 
-lies : (c : In-Accepted) → Extents (sheet c)
+lies : (c : In_ok-parts) → Extents (sheet c)
 lies c = extents_known (sheet c) (read c).faultless
 
 -- the part handed over is that with the entries
-part_is : (c : In-Accepted)
-    → take (length (sheet c) - (parts c).rankings) (drop (parts c).rankings (sheet c)) ≡ rankings_part (sheet c)
+part_is : (c : In_ok-parts) → take (length (sheet c) - (parts c).rankings) (drop (parts c).rankings (sheet c)) ≡ rankings_part (sheet c)
 part_is c = rest_is (parts c).rankings (sheet c) ∙ ap (λ (k : ℕ). drop k (sheet c)) (read c).entries_start
 
-small : (c : In-Accepted) → rank_count (sheet c) < 65536
+small : (c : In_ok-parts) → rank_count (sheet c) < 65536
 small c = count_small (sheet c) (λ i. let h = c.type_inv.sheet i in omega arith)
 
--- WHERE THE ENTRIES ARE READ
-entries_are : (c : After-read_entries-listed)
-    → let at_accepted = (goal.at.After-read_entries-listed c).In-Accepted in
-    c.read_entries-listed.result ≡ entries_reading (rank_count (sheet at_accepted)) (joints (sheet at_accepted)) (rankings_part (sheet at_accepted))
-entries_are c =
-    let at_accepted = (goal.at.After-read_entries-listed c).In-Accepted in
-    rw (← part_is at_accepted, ← (read at_accepted).m_entries, ← (read at_accepted).n_joints) c.read_entries-listed.ensures
+-- a refusal with the sheet's fault: the answer x is it, and the square is kept
+refused : (s : List ℕ) (old : List (List ℕ)) (x : Result Parts Refusal) (r : Refusal) → x ≡ Err r → number_of r ≡ sheet_fault s
+    → record { value : x ≡ reading_of s; bands_after : old ≡ square_in s old }
+refused s old x r same e = record { value = same ∙ answered_refused (parts_of s) (sheet_fault s) r e; bands_after = sym (square_kept s old r e) }
 
-clean : (c : In-Read) → let at_accepted = (goal.at.In-Read c).In-Accepted in entries_fault (rank_count (sheet at_accepted)) (joints (sheet at_accepted)) (rankings_part (sheet at_accepted)) ≡ 0
-clean c = (section_read _ _ (entries_are (goal.at.In-Read c).After-read_entries-listed) c.in-Read.is).0
+-- WHERE THE ENTRIES ARE READ
+entries_are : (c : After-read_entries)
+    → let s = sheet (goal.at.After-read_entries c).In_ok-parts in
+    c.read_entries.result ≡ answered (entries_fault (rank_count s) (joints s) (rankings_part s)) (entry_width * rank_count s)
+entries_are c =
+    let at = (goal.at.After-read_entries c).In_ok-parts in
+    rw (← part_is at, ← (read at).m_entries, ← (read at).n_joints) c.read_entries.ensures
+
+clean : (c : In_ok-read_entries) → let s = sheet (goal.at.In_ok-read_entries c).In_ok-parts in entries_fault (rank_count s) (joints s) (rankings_part s) ≡ 0
+clean c =
+    let at = goal.at.In_ok-read_entries c in
+    let s = sheet at.In_ok-parts in
+    (value_answered _ _ _ (entries_is_fault (rank_count s) (joints s) (rankings_part s)) (sym (entries_are at.After-read_entries) ∙ c.in_ok-read_entries.was)).0
 
 -- what `fill` asks of the part
-fits : (c : In-Read) → let at_accepted = (goal.at.In-Read c).In-Accepted in Inside (rank_count (sheet at_accepted)) (rankings_part (sheet at_accepted))
+fits : (c : In_ok-read_entries) → let s = sheet (goal.at.In_ok-read_entries c).In_ok-parts in Inside (rank_count s) (rankings_part s)
 fits c =
-    let at_accepted = (goal.at.In-Read c).In-Accepted in
-    let e = part_long (sheet at_accepted) (lies at_accepted) in
-    ((small at_accepted, omega arith), entry_fits _ _ _ (clean c) (lies at_accepted).few_joints)
+    let at = (goal.at.In_ok-read_entries c).In_ok-parts in
+    let e = part_long (sheet at) (lies at) in
+    ((small at, omega arith), entry_fits _ _ _ (clean c) (lies at).few_joints)
 
 -- WHERE THE PARENTS ARE READ
-third_is : (c : In-Read)
-    → let at_accepted = (goal.at.In-Read c).In-Accepted in
-    take (length (sheet at_accepted) - (parts at_accepted).parents) (drop (parts at_accepted).parents (sheet at_accepted)) ≡ third (sheet at_accepted)
-third_is c =
-    let at_accepted = (goal.at.In-Read c).In-Accepted in
-    rest_is (parts at_accepted).parents (sheet at_accepted) ∙ ap (λ (j : ℕ). drop j (sheet at_accepted)) (read at_accepted).third_start
+third_is : (c : In_ok-parts) → take (length (sheet c) - (parts c).parents) (drop (parts c).parents (sheet c)) ≡ third (sheet c)
+third_is c = rest_is (parts c).parents (sheet c) ∙ ap (λ (j : ℕ). drop j (sheet c)) (read c).third_start
 
-parents_are : (c : After-read_third-third) → let k = (goal.at.After-read_third-third c).In-Accepted in c.read_third-third.result ≡ third_reading (joints (sheet k)) (third (sheet k))
+parents_are : (c : After-read_third)
+    → let s = sheet (goal.at.After-read_third c).In_ok-parts in
+    c.read_third.result ≡ answered (parents_fault (joints s) (third s)) (length (parents_in (third s)))
 parents_are c =
-    rw (← third_is (goal.at.After-read_third-third c).In-Read, ← (read (goal.at.After-read_third-third c).In-Accepted).n_joints) c.read_third-third.ensures
+    let at = (goal.at.After-read_third c).In_ok-parts in
+    rw (← third_is at, ← (read at).n_joints) c.read_third.ensures
 
 -- what they decide
-decided : (c : In-Read) (k : ℕ) → let at_accepted = (goal.at.In-Read c).In-Accepted in
-    parents_fault (joints (sheet at_accepted)) (third (sheet at_accepted)) ≡ k → sheet_fault (sheet at_accepted) ≡ k
-decided c =
-    let at_accepted = (goal.at.In-Read c).In-Accepted in
-    by_parents (sheet at_accepted) (read at_accepted).faultless (clean c)
+decided : (c : In_ok-read_entries) (k : ℕ) → let s = sheet (goal.at.In_ok-read_entries c).In_ok-parts in parents_fault (joints s) (third s) ≡ k → sheet_fault s ≡ k
+decided c = let at = (goal.at.In_ok-read_entries c).In_ok-parts in by_parents (sheet at) (read at).faultless (clean c)
 
-filled_is : (c : After-fill) → c.fill.new.bands ≡ square_of (sheet (goal.at.After-fill c).In-Accepted)
-filled_is c =
-    let at_accepted = (goal.at.After-fill c).In-Accepted in
-    rw (← part_is at_accepted, ← (read at_accepted).m_entries) c.fill.ensures
+faultless : (c : In_ok-read_third) → sheet_fault (sheet (goal.at.In_ok-read_third c).In_ok-parts) ≡ 0
+faultless c =
+    let at = goal.at.In_ok-read_third c in
+    let s = sheet at.In_ok-parts in
+    decided at.In_ok-read_entries 0
+    (value_answered _ _ _ (parents_is_fault (joints s) (third s)) (sym (parents_are at.After-read_third) ∙ c.in_ok-read_third.was)).0
 
-pub returns-in_default : goal.returns-in_default
-returns-in_default c =
-    let s : List ℕ = c.args.sheet.now in
-    let (f, h) = refused_with s (extents_fault s) _ (sym c.extents-found.ensures ∙ c.in_default.is) in
-    let (says, keeps) = refused s c.args.bands.now _ (bad_extents s _ f (λ z. omega arith)) (λ z. omega arith) in
-    record { value = c.in_default.is ∙ says; bands_after = keeps }
+filled_is : (c : After-fill) → c.fill.new.bands ≡ square_of (sheet (goal.at.After-fill c).In_ok-parts)
+filled_is c = let at = (goal.at.After-fill c).In_ok-parts in rw (← part_is at, ← (read at).m_entries) c.fill.ensures
+
+pub returns-in_err-parts : goal.returns-in_err-parts
+returns-in_err-parts c =
+    let s = c.args.sheet.now in
+    let told = sym c.extents.ensures ∙ c.in_err-parts.was in
+    let number = refusal_answered _ _ _ told ∙ sym (bad_extents s _ refl (some_answered _ _ _ told)) in
+    let same : c.from_residual.result ≡ Err c.in_err-parts.field-0.0 = search rules in
+    refused s c.args.bands.now c.from_residual.result c.in_err-parts.field-0.0 same number
 
 pub slice_bounds-part-count : goal.slice_bounds-part-count
 slice_bounds-part-count c = let e = (lies c).reaches in let f = (read c).entries_start in omega arith
@@ -98,48 +108,53 @@ slice_bounds-part-count c = let e = (lies c).reaches in let f = (read c).entries
 pub slice_bounds-part-start : goal.slice_bounds-part-start
 slice_bounds-part-start c = let e = (lies c).reaches in let f = (read c).entries_start in omega arith
 
-pub read_entries-listed-requires : goal.read_entries-listed-requires
-read_entries-listed-requires c =
-    let at_accepted = (goal.at.read_entries-listed-requires c).In-Accepted in
-    let e = part_long (sheet at_accepted) (lies at_accepted) in
-    rw (part_is at_accepted, (read at_accepted).m_entries) (small at_accepted, omega arith)
+pub read_entries-requires : goal.read_entries-requires
+read_entries-requires c =
+    let at = (goal.at.read_entries-requires c).In_ok-parts in
+    let e = part_long (sheet at) (lies at) in
+    rw (part_is at, (read at).m_entries) (small at, omega arith)
 
-pub returns-in_default-listed : goal.returns-in_default-listed
-returns-in_default-listed c =
-    let at_accepted = (goal.at.returns-in_default-listed c).In-Accepted in
-    let (f, h) = section_refused _ _ (entries_are (goal.at.returns-in_default-listed c).After-read_entries-listed) c.in_default-listed.is c.number.ensures in
-    let (says, keeps) = refused (sheet at_accepted) c.args.bands.now _ (bad_entries (sheet at_accepted) (read at_accepted).faultless _ f h) h in
-    record { value = says; bands_after = keeps }
+pub returns-in_err-read_entries : goal.returns-in_err-read_entries
+returns-in_err-read_entries c =
+    let at = goal.at.returns-in_err-read_entries c in
+    let s = c.args.sheet.now in
+    let told = sym (entries_are at.After-read_entries) ∙ c.in_err-read_entries.was in
+    let number = refusal_answered _ _ _ told ∙ sym (bad_entries s (read at.In_ok-parts).faultless _ refl (some_answered _ _ _ told)) in
+    let same : c.from_residual-in_err-read_entries.result ≡ Err c.in_err-read_entries.field-0.0 = search rules in
+    refused s c.args.bands.now c.from_residual-in_err-read_entries.result c.in_err-read_entries.field-0.0 same number
 
 pub slice_bounds-read_third-count : goal.slice_bounds-read_third-count
 slice_bounds-read_third-count c =
-    let at_accepted = (goal.at.slice_bounds-read_third-count c).In-Accepted in
-    let e = (lies at_accepted).reaches in let f = (read at_accepted).third_start in omega arith
+    let at = (goal.at.slice_bounds-read_third-count c).In_ok-parts in let e = (lies at).reaches in let f = (read at).third_start in omega arith
 
 pub slice_bounds-read_third-start : goal.slice_bounds-read_third-start
 slice_bounds-read_third-start c =
-    let at_accepted = (goal.at.slice_bounds-read_third-start c).In-Accepted in
-    let e = (lies at_accepted).reaches in let f = (read at_accepted).third_start in omega arith
+    let at = (goal.at.slice_bounds-read_third-start c).In_ok-parts in let e = (lies at).reaches in let f = (read at).third_start in omega arith
 
-pub read_third-third-requires : goal.read_third-third-requires
-read_third-third-requires c = rw (third_is (goal.at.read_third-third-requires c).In-Read) (lies (goal.at.read_third-third-requires c).In-Accepted).third_extent
+pub read_third-requires : goal.read_third-requires
+read_third-requires c = let at = (goal.at.read_third-requires c).In_ok-parts in rw (third_is at) (lies at).third_extent
 
-pub returns-in_default-third : goal.returns-in_default-third
-returns-in_default-third c =
-    let (f, h) = section_refused _ _ (parents_are (goal.at.returns-in_default-third c).After-read_third-third) c.in_default-third.is c.number-in_default-third.ensures in
-    let read_all = (goal.at.returns-in_default-third c).In-Read in
-    let (says, keeps) = refused (sheet (goal.at.returns-in_default-third c).In-Accepted) c.args.bands.now _ (decided read_all _ f) h in
-    record { value = says; bands_after = keeps }
+pub returns-in_err-read_third : goal.returns-in_err-read_third
+returns-in_err-read_third c =
+    let at = goal.at.returns-in_err-read_third c in
+    let s = c.args.sheet.now in
+    let told = sym (parents_are at.After-read_third) ∙ c.in_err-read_third.was in
+    let number = refusal_answered _ _ _ told ∙ sym (decided at.In_ok-read_entries _ refl) in
+    let same : c.from_residual-in_err-read_third.result ≡ Err c.in_err-read_third.field-0.0 = search rules in
+    refused s c.args.bands.now c.from_residual-in_err-read_third.result c.in_err-read_third.field-0.0 same number
 
 pub fill-requires : goal.fill-requires
 fill-requires c =
-    let at_accepted = (goal.at.fill-requires c).In-Accepted in
-    subst (λ (l : List ℕ). Inside (parts at_accepted).entries l) (sym (part_is at_accepted)) (subst (λ (m : ℕ). Inside m (rankings_part (sheet at_accepted))) (sym
-    (read at_accepted).m_entries) (fits (goal.at.fill-requires c).In-Read))
+    let at = goal.at.fill-requires c in
+    let k = at.In_ok-parts in
+    subst (λ (l : List ℕ). Inside (parts k).entries l) (sym (part_is k)) (subst (λ (m : ℕ). Inside m (rankings_part (sheet k))) (sym (read k).m_entries) (fits at.In_ok-read_entries))
 
 pub returns : goal.returns
 returns c =
-    let at_accepted = (goal.at.returns c).In-Accepted in
-    let clean-parents = (section_read _ _ (parents_are (goal.at.returns c).After-read_third-third) c.in-Read-third.is).0 in
-    let all = all_read (sheet at_accepted) _ (decided (goal.at.returns c).In-Read 0 clean-parents) in
-    record { value = ap Accepted (read at_accepted).parts_are ∙ all.0; bands_after = filled_is c ∙ all.1 }
+    let at = goal.at.returns c in
+    let s = c.args.sheet.now in
+    let clean = faultless at.In_ok-read_third in
+    record {
+      value = ap Ok (read at.In_ok-parts).parts_are ∙ answered_none (parts_of s) (sheet_fault s) clean;
+      bands_after = filled_is at.After-fill ∙ sym (square_filled s c.args.bands.now clean);
+    }

@@ -1,52 +1,58 @@
--- A refused sheet's number, or what its joints, lists and parents give.
-use mathlib.Core.Path.{◌≡◌, ap, ◌∙◌}
-use mathlib.Core.List.{List}
-use Prim.Native.Nat.{ℕ, ◌-◌, ◌≤◌}
-use native.Mathlib.Omega.{arith}
-use lib.ListN.{length, take, drop}
+-- A refused sheet's refusal, or what its joints, lists and parents give.
+use Rattle.std.proofs.Common.{◌≡◌, ◌∙◌, ◌-◌, ◌≤◌, ℕ, length, take, drop, Err, sym, ap, arith, rules}
 use Rattle.base.proofs.Places.{rest_is}
-use Rattle.sheet.specs.declared.Parts.{Parts}
 use Rattle.sheet.specs.Format.{third}
+use Rattle.sheet.specs.Square.{square_of}
 use Rattle.sheet.proofs.Accepted.{accepted}
-use Rattle.sheet.proofs.ReadAs.{ListsAs, lists_as, lists_refused}
+use Rattle.sheet.proofs.ReadAs.{ReadAs, read_as, square_filled}
 use Rattle.skeleton.proofs.AnswerLaws.{sheet_refused, own_section, sheet_accepted}
 use Rattle.skeleton.proofs.follow.Goals as goal
-use Rattle.skeleton.proofs.follow.Goals.{In-Accepted}
+use Rattle.skeleton.proofs.follow.Goals.{In_ok-parts}
 
-abbrev sheet : In-Accepted → List ℕ
-sheet c = c.args.sheet.now
+parts : (c : In_ok-parts) → ReadAs c.args.sheet.now c.in_ok-parts.parts
+parts c = read_as c.args.sheet.now c.in_ok-parts.parts (sym c.lists.ensures.value ∙ c.in_ok-parts.was)
 
-abbrev parts : In-Accepted → Parts
-parts c = c.in-Accepted.parts
-
-known : (c : In-Accepted) → ListsAs (sheet c) (parts c) c.lists-found.new.bands
-known c = let l = c.lists-found in lists_as (sheet c) l.ensures.value _ l.ensures.bands_after c.in-Accepted.is
+filled : (c : In_ok-parts) → c.lists.new.bands ≡ square_of c.args.sheet.now
+filled c = c.lists.ensures.bands_after ∙ square_filled c.args.sheet.now _ (parts c).faultless
 
 -- its third section is what is handed over
-third_is : (c : In-Accepted) → take (length (sheet c) - (parts c).parents) (drop (parts c).parents (sheet c)) ≡ third (sheet c)
-third_is c = rest_is (parts c).parents (sheet c) ∙ ap (λ (k : ℕ). drop k (sheet c)) (known c).read.third_start
+third_is : (c : In_ok-parts)
+    → let s = c.args.sheet.now in
+    let place = c.in_ok-parts.parts.parents in
+    take (length s - place) (drop place s) ≡ third s
+third_is c =
+    let s = c.args.sheet.now in
+    rest_is c.in_ok-parts.parts.parents s ∙ ap (λ (k : ℕ). drop k s) (parts c).third_start
 
-within : (c : In-Accepted) → (parts c).parents ≤ length (sheet c)
+within : (c : In_ok-parts) → c.in_ok-parts.parts.parents ≤ length c.args.sheet.now
 within c =
-    let reaches = (accepted (sheet c) (known c).read.faultless).reaches in
-    omega (arith, reaches, (known c).read.third_start)
+    let reaches = (accepted c.args.sheet.now (parts c).faultless).reaches in
+    omega (arith, reaches, (parts c).third_start)
 
 pub slice_bounds-follow_lists-count : goal.slice_bounds-follow_lists-count
-slice_bounds-follow_lists-count c = omega (arith, within (goal.at.slice_bounds-follow_lists-count c).In-Accepted)
+slice_bounds-follow_lists-count c = omega (arith, within (goal.at.slice_bounds-follow_lists-count c).In_ok-parts)
 
 pub slice_bounds-follow_lists-start : goal.slice_bounds-follow_lists-start
-slice_bounds-follow_lists-start c = omega (arith, within (goal.at.slice_bounds-follow_lists-start c).In-Accepted)
+slice_bounds-follow_lists-start c = omega (arith, within (goal.at.slice_bounds-follow_lists-start c).In_ok-parts)
+
+pub invariant_of-joints : goal.invariant_of-joints
+invariant_of-joints c =
+    let at = (goal.at.invariant_of-joints c).In_ok-parts in
+    let few = (accepted c.args.sheet.now (parts at).faultless).few_joints in
+    let e = (parts at).n_joints in
+    record { few = omega arith }
 
 pub follow_lists-requires : goal.follow_lists-requires
 follow_lists-requires c =
-    let at_accepted = (goal.at.follow_lists-requires c).In-Accepted in
-    ((known at_accepted).promise.few_joints, own_section (sheet at_accepted) c.args.pairing.now (parts at_accepted) _ (known at_accepted) _ (third_is at_accepted))
+    let at = (goal.at.follow_lists-requires c).In_ok-parts in
+    own_section c.args.sheet.now c.args.pairing.now c.in_ok-parts.parts c.lists.new.bands (parts at) (filled at) _ (third_is at)
 
-pub returns-in-Refused : goal.returns-in-Refused
-returns-in-Refused c =
-    sheet_refused _ _ (lists_refused _ c.lists-found.ensures.value c.in-Refused.is)
+pub returns-in_err-parts : goal.returns-in_err-parts
+returns-in_err-parts c =
+    let same : c.from_residual.result ≡ Err c.in_err-parts.field-0.0 = search rules in
+    same ∙ sheet_refused c.args.sheet.now c.args.pairing.now c.in_err-parts.field-0.0 (sym c.lists.ensures.value ∙ c.in_err-parts.was)
 
-pub returns-in-Accepted : goal.returns-in-Accepted
-returns-in-Accepted c =
-    let at_accepted = (goal.at.returns-in-Accepted c).In-Accepted in
-    sheet_accepted (sheet at_accepted) c.args.pairing.now (parts at_accepted) _ (known at_accepted) _ (third_is at_accepted) c.follow_lists.ensures
+pub returns : goal.returns
+returns c =
+    let at = (goal.at.returns c).In_ok-parts in
+    sheet_accepted c.args.sheet.now c.args.pairing.now c.in_ok-parts.parts c.lists.new.bands (parts at) (filled at) _ (third_is at) c.follow_lists.ensures

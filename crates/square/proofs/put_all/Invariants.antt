@@ -7,6 +7,3 @@ use Rattle.square.proofs.put_all.Given as goal
 
 abbrev pub invariant-loop-j : goal.invariant-loop-j
 invariant-loop-j l = (l.j ≤ l.m) × (l.bands ≡ placed (from l.m l.part l.j))
-
-abbrev pub decreases-loop-j : goal.decreases-loop-j
-decreases-loop-j l = l.j

@@ -14,6 +14,3 @@ across listed a b = ltb 0 (at listed b a)
 
 abbrev pub invariant-loop-j : goal.invariant-loop-j
 invariant-loop-j l = (l.j ≤ l.m) × (l.bands ≡ placed (only (across l.listed) (from l.m l.part l.j)))
-
-abbrev pub decreases-loop-j : goal.decreases-loop-j
-decreases-loop-j l = l.j

@@ -1,21 +1,17 @@
-use mathlib.Core.Path.{◌∙◌}
-use native.Mathlib.Omega.{arith}
-use Rattle.words.proofs.MetLaws.{any_start, any_none, any_next, any_end}
+use Rattle.std.proofs.Common.{◌∙◌, arith}
+use Rattle.words.proofs.MetLaws.{any_none, any_end, any_turn, next_follows, follows_on}
 use Rattle.words.proofs.any_words.Goals as goal
 
-pub loop-i-init : goal.loop-i-init
-loop-i-init c = ((omega arith, (omega arith, omega arith)), any_start _ _)
+pub returns-in_err-rest : goal.returns-in_err-rest
+returns-in_err-rest c = rw c.from_residual.ensures (c.loop.invariant.same ∙ any_none _ c.in_err-rest.ensures _ (omega arith))
 
-pub returns-then-word : goal.returns-then-word
-returns-then-word c =
-    c.loop-i.invariant.1 ∙ any_none c.next_word-word.ensures _ _ c.loop-i-test.true c.if-word.true
-
-pub loop-i-preserved : goal.loop-i-preserved
-loop-i-preserved c =
-    let next = c.next_word-word.ensures in
-    ((omega arith, (omega arith, omega arith)), c.loop-i.invariant.1 ∙ any_next next _ _ c.loop-i-test.true c.if-word.false)
+pub loop-preserved : goal.loop-preserved
+loop-preserved c =
+    let next = c.in_ok-rest.ensures in
+    record {
+      same = c.loop.invariant.same ∙ any_turn _ _ (omega arith) next;
+      follows = follows_on c.loop.invariant.follows (next_follows next);
+    }
 
 pub returns : goal.returns
-returns c =
-    let inv = c.loop-i.invariant in
-    (inv.1 ∙ any_end _ _ _ c.loop-i-test.false, inv.0.1)
+returns c = (c.loop.invariant.same ∙ any_end _ _ _ (omega arith), c.loop.invariant.follows)

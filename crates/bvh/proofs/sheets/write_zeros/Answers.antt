@@ -1,11 +1,9 @@
-use native.Mathlib.Omega.{arith}
-use Rattle.writing.proofs.Writings.{nothing_wrote}
+use Rattle.std.proofs.Common.{◌≡◌, ◌+◌, ◌-◌, replicate, arith, rules}
 use Rattle.bvh.proofs.WriteLaws.{zeros_wrote}
 use Rattle.bvh.proofs.sheets.write_zeros.Goals as goal
 
-pub loop-i-init : goal.loop-i-init
-loop-i-init c = (omega arith, nothing_wrote _ _)
-
-pub loop-i-preserved : goal.loop-i-preserved
-loop-i-preserved c =
-    (omega arith, zeros_wrote c.loop-i.i c.loop-i.invariant.1 c.put-next.ensures)
+pub returns : goal.returns
+returns c =
+    let count : c.args.at + c.args.count - c.args.at ≡ c.args.count = omega arith in
+    let zeros : c.fill.new.self ≡ replicate c.args.count 0 = search rules in
+    rw count (zeros_wrote c.args.out.now c.fill.new.self c.args.at c.args.count zeros c.requires)

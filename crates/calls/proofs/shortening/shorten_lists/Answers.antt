@@ -1,78 +1,79 @@
 -- 9, a refused choice, or by the working's verdict: one law for each.
-use mathlib.Core.Path.{◌≡◌, ap, ◌∙◌}
-use mathlib.Core.List.{◌++◌}
-use Prim.Native.Nat.{ℕ, ◌+◌, ◌*◌, ◌≤◌}
+use Rattle.std.proofs.Common.{rules, ◌≡◌, ℕ, ◌+◌, ◌*◌, ◌≤◌, ◌++◌, length, drop, Some, Ok, Err, refl, sym, ap, ◌∙◌}
 use native.Mathlib.Omega.{arith}
-use lib.ListN.{length, drop}
+use Rattle.refusals.specs.Numbers.{fault_in}
 use Rattle.roommates.specs.declared.Stage.{Stage}
-use Rattle.roommates.specs.declared.Stage.TheVariants.{Proposing, Cutting, NoneOne, NoneTwo, Paired}
-use Rattle.roommates.specs.Moves.{Outcome}
+use Rattle.roommates.specs.declared.Stage.TheVariants.{Paired}
+use Rattle.roommates.specs.Moves.{Outcome, outcome}
 use Rattle.roommates.specs.Left.{entry_count, list_bytes}
 use Rattle.roommates.proofs.EntriesWritten.{bytes_length}
+use Rattle.records.specs.Records.{shortens_by}
+use Rattle.stages.specs.Workings.{work_of}
 use Rattle.calls.specs.Calls.{listed_as, result_over}
-use Rattle.calls.specs.declared.Shortened.TheVariants as L
+use Rattle.calls.proofs.Answers.{unlisted}
 use Rattle.calls.proofs.LawsCalls.{left_fits, ShortenedSo, shortening, shortened_short, shortened_choice, shortened_at}
 use Rattle.calls.proofs.shortening.shorten_lists.Goals as goal
-use Rattle.calls.proofs.shortening.shorten_lists.Goals.{After-working-end, Else-end-ge1}
+use Rattle.calls.proofs.shortening.shorten_lists.Goals.{After-steer, In_ok-steer}
+
+-- what became of the working
+worked : (c : After-steer) → let r = c.args.rankings.now in
+    outcome (fault_in c.steer.result) (work_of c.steer.new.working) ≡ shortens_by r.joints.count r.bands c.args.choices.now
+worked c = c.steer.ensures _ _ _ c.begin-working.ensures.begun
 
 -- what is left is no more than the sheet has
-fits : (w : After-working-end) → entry_count w.args.n w.working-end.new.left ≤ w.args.m
-fits w =
-    let a = w.args in
-    let p = w.requires in
-    let few = rw (← ap (λ (o : Outcome). o.work_is.lists) w.working-end.ensures) at (left_fits a.n a.bands a.choices.now p.0) in
-    omega (arith, few, p.1.0)
+fits : (c : After-steer) → entry_count c.args.rankings.now.joints.count c.steer.new.working.lists ≤ c.args.m
+fits c =
+    let r = c.args.rankings.now in
+    let few = rw (← ap (λ (o : Outcome). o.work_is.lists) (worked c)) at (left_fits r.joints.count r.bands c.args.choices.now r.promise) in
+    omega (arith, few, c.requires.0)
 
 -- what the call says where no choice was refused and the working ended with the verdict v
-at : (e : Else-end-ge1) (v : Stage) → let a = e.args in let left = e.working-end.new.left in
-    e.working-end.result.stage ≡ v
-    → ShortenedSo (shortening a.n a.m a.bands a.choices.now a.out.now) a.out.now
-    (listed_as v (entry_count a.n left)) (result_over v (list_bytes a.n left) a.out.now)
-at e v h = shortened_at _ _ _ _ _ e.working-end.result e.working-end.ensures e.if-out-m.false v (omega (arith, e.if-end-ge1.false)) h
+at : (c : In_ok-steer) (v : Stage) → let r = c.args.rankings.now in let left = c.steer.new.working.lists in
+    c.steer.new.working.stage ≡ v
+    → ShortenedSo (shortening r.joints.count c.args.m r.bands c.args.choices.now c.args.out.now) c.args.out.now
+    (Ok (listed_as v (entry_count r.joints.count left))) (result_over v (list_bytes r.joints.count left) c.args.out.now)
+at c v h =
+    let r = c.args.rankings.now in
+    shortened_at r.joints.count c.args.m r.bands c.args.choices.now c.args.out.now (fault_in c.steer.result) (work_of c.steer.new.working)
+    (worked (goal.at.In_ok-steer c).After-steer) c.if-out-m.false v (ap fault_in c.in_ok-steer.was) h
 
 pub returns-then-out-m : goal.returns-then-out-m
 returns-then-out-m c =
-    let says = shortened_short _ _ _ _ _ c.if-out-m.true in
+    let r = c.args.rankings.now in
+    let says = shortened_short r.joints.count c.args.m r.bands c.args.choices.now c.args.out.now c.if-out-m.true in
     record { value = says.0; out_after = says.1 }
 
-pub returns-then-end-ge1 : goal.returns-then-end-ge1
-returns-then-end-ge1 c =
-    let says = shortened_choice _ _ _ _ _ c.working-end.result c.working-end.ensures c.if-out-m.false c.if-end-ge1.true in
-    record { value = says.0; out_after = says.1 }
+pub returns-in_err-steer : goal.returns-in_err-steer
+returns-in_err-steer c =
+    let at = (goal.at.returns-in_err-steer c).After-steer in
+    let r = c.args.rankings.now in
+    let says = shortened_choice r.joints.count c.args.m r.bands c.args.choices.now c.args.out.now (fault_in c.steer.result) (work_of c.steer.new.working)
+    (worked at) c.if-out-m.false c.in_err-steer.field-0.0 (sym (ap fault_in c.in_err-steer.was)) in
+    let same : c.from_residual.result ≡ Err c.in_err-steer.field-0.0 = search rules in
+    record { value = same ∙ says.0; out_after = says.1 }
+
+pub returns-in_default : goal.returns-in_default
+returns-in_default c =
+    let r = c.args.rankings.now in
+    let left = c.steer.new.working in
+    let so = at (goal.at.returns-in_default c).In_ok-steer left.stage refl in
+    let other = unlisted left.stage (entry_count r.joints.count left.lists) (list_bytes r.joints.count left.lists) c.args.out.now c.in_default.not-Paired in
+    record { value = rw other.0 at so.0; out_after = rw other.1 at so.1 }
 
 pub write_lists-requires : goal.write_lists-requires
-write_lists-requires c =
-    (c.requires.0.few_joints, omega (arith, fits (goal.at.write_lists-requires c).After-working-end, c.if-out-m.false))
+write_lists-requires c = omega (arith, fits (goal.at.write_lists-requires c).After-steer, c.if-out-m.false)
 
 pub overflow_cast-result : goal.overflow_cast-result
-overflow_cast-result c =
-    omega (arith, c.write_lists.ensures.value, fits (goal.at.overflow_cast-result c).After-working-end, c.requires.1.1)
+overflow_cast-result c = omega (arith, c.write_lists.ensures.value, fits (goal.at.overflow_cast-result c).After-steer, c.requires.1)
 
-pub returns-in-NoneOne : goal.returns-in-NoneOne
-returns-in-NoneOne c =
-    let says = at (goal.at.returns-in-NoneOne c).Else-end-ge1 NoneOne c.in-NoneOne.is in
-    record { value = says.0; out_after = says.1 }
-
-pub returns-in-NoneTwo : goal.returns-in-NoneTwo
-returns-in-NoneTwo c =
-    let says = at (goal.at.returns-in-NoneTwo c).Else-end-ge1 NoneTwo c.in-NoneTwo.is in
-    record { value = says.0; out_after = says.1 }
-
-pub returns-in-Paired : goal.returns-in-Paired
-returns-in-Paired c =
-    let so = at (goal.at.returns-in-Paired c).Else-end-ge1 Paired c.in-Paired.is in
-    let a = c.args in
-    let bytes = list_bytes a.n c.working-end.new.left in
+pub returns : goal.returns
+returns c =
+    let r = c.args.rankings.now in
+    let so = at (goal.at.returns c).In_ok-steer Paired c.in-Paired.is in
+    let bytes = list_bytes r.joints.count c.steer.new.working.lists in
     let count = c.write_lists.ensures.value in
-    let long : 2 + 3 * c.write_lists.result ≡ length bytes = omega (arith, count, bytes_length a.n c.working-end.new.left) in
-    record { value = ap (λ (k : ℕ). L.Lists k) count ∙ so.0; out_after = c.write_lists.ensures.out_after ∙ (ap (λ (l : ℕ). bytes ++ drop l a.out.now) long ∙ so.1) }
+    let long : 2 + 3 * c.write_lists.result ≡ length bytes = omega (arith, count, bytes_length r.joints.count c.steer.new.working.lists) in
+    record { value = ap (λ (k : ℕ). Ok (Some k)) count ∙ so.0; out_after = c.write_lists.ensures.out_after ∙ (ap (λ (l : ℕ). bytes ++ drop l c.args.out.now) long ∙ so.1) }
 
-pub returns-in-Proposing : goal.returns-in-Proposing
-returns-in-Proposing c =
-    let says = at (goal.at.returns-in-Proposing c).Else-end-ge1 Proposing c.in-Proposing.is in
-    record { value = says.0; out_after = says.1 }
-
-pub returns-in-Cutting : goal.returns-in-Cutting
-returns-in-Cutting c =
-    let says = at (goal.at.returns-in-Cutting c).Else-end-ge1 Cutting c.in-Cutting.is in
-    record { value = says.0; out_after = says.1 }
+pub steer-requires : goal.steer-requires
+steer-requires c = c.begin-working.ensures.lawful c.args.rankings.now.promise

@@ -1,7 +1,4 @@
-use mathlib.Core.Path.{◌≡◌, sym}
-use lib.ListN.{take}
-use lib.Seq.{length-take-le}
-use Rattle.writing.proofs.Writings.{wrote_length}
+use Rattle.std.proofs.Common.{◌≡◌, take}
 use Rattle.labels.specs.Lines.{label_text}
 use Rattle.labels.proofs.Shown.{shown_text}
 use Rattle.labels.proofs.lines.write_label.Goals as goal
@@ -11,14 +8,8 @@ use Rattle.labels.proofs.lines.write_label.Goals.{After-visible_run-shown}
 shown : (c : After-visible_run-shown) → take c.visible_run-shown.result c.args.label.now ≡ label_text c.args.label.now
 shown c = shown_text _ _ c.visible_run-shown.ensures.value
 
-pub slice_bounds-write_word-end : goal.slice_bounds-write_word-end
-slice_bounds-write_word-end c = sym (length-take-le _ _ c.visible_run-shown.ensures.upper_bound)
-
 pub write_word-requires : goal.write_word-requires
 write_word-requires c = rw (shown (goal.at.write_word-requires c).After-visible_run-shown) c.requires
 
 pub returns : goal.returns
 returns c = rw (shown (goal.at.returns c).After-visible_run-shown) at c.write_word.ensures
-
-pub shape_of-out : goal.shape_of-out
-shape_of-out c = wrote_length (returns c)

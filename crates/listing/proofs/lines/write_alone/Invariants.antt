@@ -1,5 +1,3 @@
-use Prim.Native.Nat.{◌-◌, ◌≤◌}
-use lib.ListN.{length}
 use Rattle.base.specs.Below.{joined}
 use Rattle.sections.specs.Labels.{label_at}
 use Rattle.writing.specs.Written.{Wrote}
@@ -7,8 +5,4 @@ use Rattle.listing.specs.Text.{alone_part}
 use Rattle.listing.proofs.lines.write_alone.Given as goal
 
 abbrev pub invariant-loop-i : goal.invariant-loop-i
-invariant-loop-i l =
-    (l.i ≤ length l.partners) × Wrote l.initial.out l.at (joined l.i (alone_part (label_at l.sheet l.labels) l.partners)) l.out l.next
-
-abbrev pub decreases-loop-i : goal.decreases-loop-i
-decreases-loop-i l = length l.partners - l.i
+invariant-loop-i l = Wrote l.initial.out l.at (joined l.i (alone_part (label_at l.opened.bytes.now l.opened.labels) l.partners)) l.out l.next

@@ -1,19 +1,18 @@
-use mathlib.Core.Path.{◌≡◌, refl, ◌∙◌}
-use native.Mathlib.Omega.{arith}
-use Rattle.roommates.specs.Lists.{worst_band}
-use Rattle.lists.proofs.LawsLists.{worst_hit, worst_miss}
+-- A list's worst band, a maximum.
+use Rattle.std.proofs.Common.{◌≡◌, sym, ◌∙◌, ap, take, arith}
+use Rattle.std.specs.List.{reduce}
+use Rattle.std.specs.Option.{unwrap_or}
+use Rattle.std.specs.Prelude.{max}
+use Rattle.std.proofs.lemmas.Iterator.{YieldsList-from_slice}
+use Rattle.std.proofs.lemmas.Iterator.Adapters.{option_map_id}
+use Rattle.std.proofs.lemmas.Iterator.Consumers.{YieldsList-from_copied, max_from_yields_List}
+use Rattle.lists.proofs.LawsLists.{worst_taken}
 use Rattle.lists.proofs.rows.worst_band.Goals as goal
-use Rattle.lists.proofs.rows.worst_band.Goals.{else-worst-row, then-worst-row}
-
-pub loop-i-init : goal.loop-i-init
-unfolding worst_band
-loop-i-init c = (omega arith, refl)
-
-pub loop-i-preserved : goal.loop-i-preserved
-loop-i-preserved c = (elim c.if-worst-row.branch [
-  | then-worst-row w ↦ (omega arith, w.worst-is ∙ worst_hit _ _ c.loop-i.invariant.1 w.if-worst-row.true)
-  | else-worst-row w ↦ (omega arith, w.worst-is ∙ worst_miss _ _ c.loop-i.invariant.1 w.if-worst-row.false)
-])
 
 pub returns : goal.returns
-returns c = let e : c.loop-i.i ≡ c.args.n = omega arith in cc
+returns c =
+    let n = c.args.n.count in
+    let l = c.args.row.now in
+    let high : c.max.result ≡ reduce max (take n l) =
+    sym (option_map_id _) ∙ max_from_yields_List _ _ c.max.ensures.ran (YieldsList-from_copied (YieldsList-from_slice (take n l) cc)) in
+    c.unwrap_or.ensures ∙ ap (λ (r : _). unwrap_or r 0) high ∙ worst_taken n l (omega arith)

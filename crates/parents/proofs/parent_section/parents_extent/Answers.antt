@@ -1,22 +1,39 @@
 -- Each way out is a law of its own.
+use Rattle.std.proofs.Common.{rules, ◌≡◌, ℕ, suc, List, length, get_or, sym, ap, ◌∙◌}
 use native.Mathlib.Omega.{arith}
-use Rattle.sections.proofs.SectionLaws.{refused_by, read_whole}
+use Rattle.refusals.proofs.Numbers.{answered_none, answered_refused}
+use Rattle.refusals.specs.declared.Refusal.TheVariants.{SheetCutShort, BytesAfterSheet}
+use Rattle.parents.specs.Parents.{extent_fault}
 use Rattle.parents.proofs.ThirdLaws.{extent_none, extent_short, extent_long, extent_whole}
 use Rattle.parents.proofs.parent_section.parents_extent.Goals as goal
+use Rattle.parents.proofs.parent_section.parents_extent.Goals.{After-from-count}
 
-pub returns-then-size-eq0 : goal.returns-then-size-eq0
-returns-then-size-eq0 c = rw c.if-size-eq0.true (read_whole _ _ (extent_none _ c.if-size-eq0.true))
+-- where the section is there: its length, and its count
+long : (c : After-from-count) → length c.args.third.now ≡ suc (length c.in-Some.part.now)
+long c = ap length c.in-Some.ensures.cases.0
 
-pub returns-then-size-count : goal.returns-then-size-count
-returns-then-size-count c =
-    let count = c.wide-count.ensures.value in
-    let some = c.if-size-eq0.false in
-    refused_by _ _ 1 (extent_short _ some (omega (arith, count, c.if-size-count.true))) (λ z. omega arith)
+counts : (c : After-from-count) → get_or c.args.third.now 0 0 ≡ c.from-count.result
+counts c = ap (λ (l : List ℕ). get_or l 0 0) c.in-Some.ensures.cases.0 ∙ sym c.from-count.ensures
 
-pub returns-then-count-size : goal.returns-then-count-size
-returns-then-count-size c = refused_by _ _ 8 (extent_long _ (omega (arith, c.wide-count.ensures.value, c.if-count-size.true))) (λ z. omega arith)
+pub returns-in_default : goal.returns-in_default
+returns-in_default c =
+    let none : length c.args.third.now ≡ 0 = search rules in
+    rw none (answered_none 0 (extent_fault c.args.third.now) (extent_none _ none))
+
+pub returns-then-part-count : goal.returns-then-part-count
+returns-then-part-count c =
+    let at = (goal.at.returns-then-part-count c).After-from-count in
+    answered_refused _ (extent_fault c.args.third.now) SheetCutShort
+    (sym (extent_short c.args.third.now (λ z. omega (arith, long at)) (omega (arith, long at, counts at, c.if-part-count.true))))
+
+pub returns-then-count-part : goal.returns-then-count-part
+returns-then-count-part c =
+    let at = (goal.at.returns-then-count-part c).After-from-count in
+    answered_refused _ (extent_fault c.args.third.now) BytesAfterSheet
+    (sym (extent_long c.args.third.now (omega (arith, long at, counts at, c.if-count-part.true))))
 
 pub returns : goal.returns
 returns c =
-    let count = c.wide-count.ensures.value in
-    read_whole _ _ (extent_whole _ (omega (arith, count, c.if-size-count.false, c.if-count-size.false)))
+    let at = (goal.at.returns c).After-from-count in
+    answered_none _ (extent_fault c.args.third.now)
+    (extent_whole c.args.third.now (omega (arith, long at, counts at, c.if-part-count.false, c.if-count-part.false)))

@@ -1,24 +1,25 @@
 -- Another count, or the parents decide.
-use mathlib.Core.Path.{◌≡◌, sym, ◌∙◌}
-use mathlib.Core.Bool.{Bool}
-use native.Mathlib.Omega.{arith}
-use Rattle.base.specs.Faults.{when}
-use Rattle.sections.proofs.SectionLaws.{refused_by, read_whole}
+use Rattle.std.proofs.Common.{◌≡◌, sym, ◌∙◌}
+use Rattle.refusals.proofs.Numbers.{answered_none, answered_refused}
+use Rattle.refusals.specs.declared.Refusal.TheVariants.{BadParents}
 use Rattle.parents.specs.Parents.{counted_fault}
 use Rattle.parents.proofs.ThirdLaws.{other_count, by_parents}
 use Rattle.parents.proofs.parent_section.read_parents.Goals as goal
-use Rattle.parents.proofs.parent_section.read_parents.Goals.{After-some_bad-bad}
-
--- where the count is n, and some parent is bad or none is
-decided : (c : After-some_bad-bad) {b : Bool} → c.some_bad-bad.result ≡ b → let a = c.args in
-    counted_fault a.n a.count a.part.now ≡ when b 18
-decided c e = let a = c.args in by_parents a.n a.count a.part.now c.if-count-n.false (sym c.some_bad-bad.ensures ∙ e)
+use Rattle.parents.proofs.parent_section.read_parents.Goals.{then-count-n-via-then-count-n, then-count-n-via-else-count-n+then-some_bad}
 
 pub returns-then-count-n : goal.returns-then-count-n
-returns-then-count-n c = refused_by _ _ 18 (other_count _ _ _ c.if-count-n.true) (λ z. omega arith)
-
-pub returns-then-bad : goal.returns-then-bad
-returns-then-bad c = refused_by _ _ 18 (decided (goal.at.returns-then-bad c).After-some_bad-bad c.if-bad.true) (λ z. omega arith)
+returns-then-count-n c =
+    let a = c.args in
+    let bad : counted_fault a.n a.count a.part.now ≡ 18 =
+    elim c.then-count-n.branch [
+      | then-count-n-via-then-count-n w ↦ other_count _ _ _ w.if-count-n.true
+      | then-count-n-via-else-count-n+then-some_bad w ↦
+          by_parents _ _ _ w.if-count-n.false (sym w.some_bad.ensures ∙ w.if-some_bad.true)
+    ] in
+    answered_refused _ (counted_fault a.n a.count a.part.now) BadParents (sym bad)
 
 pub returns : goal.returns
-returns c = read_whole _ _ (decided (goal.at.returns c).After-some_bad-bad c.if-bad.false)
+returns c =
+    let a = c.args in
+    answered_none _ (counted_fault a.n a.count a.part.now)
+    (by_parents _ _ _ c.if-count-n.false (sym c.some_bad.ensures ∙ c.if-some_bad.false))

@@ -1,21 +1,24 @@
-use Rattle.base.proofs.Faults.{below_zero, below_next, below_hit, below_end}
-use Rattle.sections.proofs.SectionLaws.{refused_with, read_whole}
-use mathlib.Core.Path.{sym, ◌∙◌}
+use Rattle.std.proofs.Common.{rules, ◌≡◌, ℕ, ◌*◌, sym, ◌∙◌}
 use native.Mathlib.Omega.{arith}
+use Rattle.base.proofs.Faults.{below_zero, below_next, below_hit}
+use Rattle.refusals.proofs.Numbers.{answered_refused, value_answered, refusal_answered, some_answered}
+use Rattle.refusals.specs.Numbers.{number_of}
+use Rattle.sections.specs.Entries.{entry_fault, entries_fault}
+use Rattle.sections.proofs.Numbers.{entry_is_fault}
 use Rattle.sections.proofs.entry_section.read_entries.Goals as goal
 
 pub loop-j-init : goal.loop-j-init
-loop-j-init c = (omega arith, below_zero _)
+loop-j-init c = below_zero _
 
-pub returns-then-fault-ne0 : goal.returns-then-fault-ne0
-returns-then-fault-ne0 c =
-    let here = c.entry_fault-fault.ensures in
-    let first = below_hit _ _ _ c.loop-j-test.true c.loop-j.invariant.1 (λ z. c.if-fault-ne0.true (here ∙ z)) in
-    rw (← first, ← here) (refused_with _ _ c.if-fault-ne0.true)
+pub returns-in_err-judge_entry : goal.returns-in_err-judge_entry
+returns-in_err-judge_entry c =
+    let fault : ℕ → ℕ = entry_fault c.args.n c.args.part.now in
+    let told = sym c.judge_entry.ensures ∙ c.in_err-judge_entry.was in
+    let first = below_hit c.args.m fault c.loop-j.j (omega arith) c.loop-j.invariant (some_answered _ _ _ told) in
+    let e : number_of c.in_err-judge_entry.field-0.0 ≡ entries_fault c.args.m c.args.n c.args.part.now = refusal_answered _ _ _ told ∙ first in
+    search (rules, answered_refused (3 * c.args.m) (entries_fault c.args.m c.args.n c.args.part.now) c.in_err-judge_entry.field-0.0 e)
 
 pub loop-j-preserved : goal.loop-j-preserved
 loop-j-preserved c =
-    (omega arith, below_next _ _ c.loop-j.invariant.1 (sym c.entry_fault-fault.ensures ∙ c.if-fault-ne0.false))
-
-pub returns : goal.returns
-returns c = read_whole _ _ (sym (below_end _ _ _ c.loop-j.invariant.1 c.loop-j.invariant.0 c.loop-j-test.false))
+    let told = sym c.judge_entry.ensures ∙ c.in_ok-judge_entry.was in
+    below_next _ _ c.loop-j.invariant (value_answered _ _ _ (entry_is_fault c.args.n c.args.part.now c.loop-j.j) told).0

@@ -1,10 +1,10 @@
 use Rattle.sections.specs.Labels.{label_bad}
 use Rattle.sections.proofs.label_section.label_bad.Goals as goal
 
-pub returns-then-ok : goal.returns-then-ok
+pub returns-then-not-label_ok : goal.returns-then-not-label_ok
 unfolding label_bad
-returns-then-ok c = rw (← c.label_at.ensures, ← c.label_ok-ok.ensures, c.if-ok.true) c.repeats_any.ensures
+returns-then-not-label_ok c = rw (← c.label_at.ensures, ← c.label_ok.ensures, c.if-not-label_ok.true)
 
-pub returns-else-ok : goal.returns-else-ok
+pub returns-else-not-label_ok : goal.returns-else-not-label_ok
 unfolding label_bad
-returns-else-ok c = rw (← c.label_at.ensures, ← c.label_ok-ok.ensures, c.if-ok.false)
+returns-else-not-label_ok c = rw (← c.label_at.ensures, ← c.label_ok.ensures, c.if-not-label_ok.false) c.repeats_any.ensures

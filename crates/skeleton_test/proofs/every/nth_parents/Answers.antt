@@ -24,8 +24,8 @@ still_lower ps i p e long lower h l = rw e (length-set ps i p ∙ long, lower_se
 pub loop-i-preserved : goal.loop-i-preserved
 loop-i-preserved c =
     let at = c.loop-i in
-    let (below, long, lower) = at.invariant in
+    let (long, lower) = at.invariant in
     (elim c.if-digit-i.branch [
-      | then-digit-i w ↦ let (more, still) = still_lower at.parents at.i _ w.parents-is long lower w.if-digit-i.true (omega arith) in (omega arith, more, still)
-      | else-digit-i w ↦ (omega arith, ap length w.parents-is ∙ long, rw w.parents-is lower)
+      | then-digit-i w ↦ let (more, still) = still_lower at.parents at.i _ w.parents-is long lower w.if-digit-i.true (omega arith) in (more, still)
+      | else-digit-i w ↦ (ap length w.parents-is ∙ long, rw w.parents-is lower)
     ])

@@ -1,10 +1,7 @@
--- The loop stands at joint i. A parent that is written is lower, so all stay roots or below lower joints.
-use Rattle.std.proofs.Common.{◌≡◌, ◌-◌, ◌≤◌, length}
+-- A parent that is written is lower, so all stay roots or below lower joints.
+use Rattle.std.proofs.Common.{◌≡◌, length}
 use Rattle.parents.specs.Claims.{Lower}
 use Rattle.skeleton_test.proofs.every.nth_parents.Given as goal
 
 abbrev pub invariant-loop-i : goal.invariant-loop-i
-invariant-loop-i l = (l.i ≤ l.n) × (length l.parents ≡ 8) × Lower l.parents
-
-abbrev pub decreases-loop-i : goal.decreases-loop-i
-decreases-loop-i l = l.n - l.i
+invariant-loop-i l = (length l.parents ≡ 8) × Lower l.parents

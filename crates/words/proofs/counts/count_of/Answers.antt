@@ -1,41 +1,32 @@
-use mathlib.Core.Path.{refl, ◌∙◌}
-use mathlib.Core.Logic.{inl, inr}
-use native.Mathlib.Omega.{arith}
-use Rattle.words.proofs.MetLaws.{digits_more, digits_low, digits_high, digits_end, value_more, value_end, value_passes}
+use Rattle.std.proofs.Common.{◌≡◌, ◌+◌, ◌*◌, ◌-◌, ◌∙◌, get_or, arith, rules, inl, inr}
+use Rattle.words.proofs.MetLaws.{digits_more, digits_other, digits_end, value_more, value_end, value_passes}
 use Rattle.words.proofs.counts.count_of.Goals as goal
 
-pub loop-i-init : goal.loop-i-init
-loop-i-init c = (omega arith, (refl, refl))
+pub returns-then-not-is_ascii_digit : goal.returns-then-not-is_ascii_digit
+returns-then-not-is_ascii_digit c = inl (c.loop-b.invariant.digits ∙ digits_other _ _ c.loop-b-test.true (search rules))
 
-pub returns-then-digit-lt48 : goal.returns-then-digit-lt48
-returns-then-digit-lt48 c =
-    inl (c.loop-i.invariant.1.0 ∙ digits_low _ _ c.loop-i-test.true c.if-digit-lt48.true)
+pub returns-in_err-checked_mul : goal.returns-in_err-checked_mul
+returns-in_err-checked_mul c =
+    rw (c.from_residual.ensures, c.loop-b.invariant.same)
+    (inr (value_passes _ _ _ _ c.loop-b-test.true (omega (arith, c.in_err-checked_mul.ensures))))
 
-pub returns-then-digit-gt57 : goal.returns-then-digit-gt57
-returns-then-digit-gt57 c =
-    inl (c.loop-i.invariant.1.0 ∙ digits_high _ _ c.loop-i-test.true c.if-digit-lt48.false c.if-digit-gt57.true)
+pub returns-in_err-value : goal.returns-in_err-value
+returns-in_err-value c =
+    rw (c.from_residual-in_err-value.ensures, c.loop-b.invariant.same)
+    (inr
+    (value_passes _ _ _ _ c.loop-b-test.true (omega (arith, c.in_err-value.ensures, c.in_ok-checked_mul.ensures, c.from.ensures))))
 
-pub returns-then-tenth-value : goal.returns-then-tenth-value
-returns-then-tenth-value c =
-    inr (rw c.loop-i.invariant.1.1 (value_passes _ _ _ _ c.loop-i-test.true c.if-tenth-value.true))
-
-pub loop-i-preserved : goal.loop-i-preserved
-loop-i-preserved c =
-    let inv = c.loop-i.invariant in (
-      omega arith,
-      (
-        inv.1.0 ∙ digits_more _ _ c.loop-i-test.true c.if-digit-lt48.false c.if-digit-gt57.false,
-        rw c.wide.ensures.value (inv.1.1 ∙ value_more _ _ _ c.loop-i-test.true),
-      ),
-    )
-
-pub returns-then-most-value : goal.returns-then-most-value
-returns-then-most-value c =
-    let inv = c.loop-i.invariant in
-    inr (rw (inv.1.1, value_end _ _ _ c.loop-i-test.false) c.if-most-value.true)
+pub loop-b-preserved : goal.loop-b-preserved
+loop-b-preserved c =
+    let digit = c.if-not-is_ascii_digit.ensures.cases in
+    let value : c.in_ok-value.value ≡ 10 * c.loop-b.value + (get_or c.args.word.now c.loop-b.b-index 0 - 48)
+    = omega (arith, c.in_ok-value.ensures, c.in_ok-checked_mul.ensures, c.from.ensures) in
+    record {
+      digits = c.loop-b.invariant.digits ∙ digits_more _ _ c.loop-b-test.true digit.0 digit.1;
+      same = c.loop-b.invariant.same ∙ rw value (value_more _ _ _ c.loop-b-test.true);
+    }
 
 pub returns : goal.returns
 returns c =
-    let inv = c.loop-i.invariant in
-    let end = c.loop-i-test.false in
-    (inv.1.0 ∙ digits_end _ _ end, inv.1.1 ∙ value_end _ _ _ end)
+    let end = c.loop-b-test.false in
+    (c.loop-b.invariant.digits ∙ digits_end _ _ end, c.loop-b.invariant.same ∙ value_end _ _ _ end)

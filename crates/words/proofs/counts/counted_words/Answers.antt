@@ -1,13 +1,12 @@
-use Rattle.words.proofs.MetLaws.{counted_none, counted_unfit, counted_reaches}
+use Rattle.std.proofs.Common.{rules}
+use Rattle.words.proofs.MetLaws.{counted_none, counted_unfit, counted_is, next_follows, reaches_from}
 use Rattle.words.proofs.counts.counted_words.Goals as goal
 
-pub returns-then-start-end : goal.returns-then-start-end
-returns-then-start-end c = counted_none c.next_word-word.ensures c.if-start-end.true
+pub returns-in_err-word : goal.returns-in_err-word
+returns-in_err-word c = rw c.from_residual.ensures (counted_none _ c.in_err-word.ensures)
 
-pub returns-in_default : goal.returns-in_default
-returns-in_default c = counted_unfit c.next_word-word.ensures c.if-start-end.false c.in_default.ensures
+pub returns-in_err-count_of : goal.returns-in_err-count_of
+returns-in_err-count_of c = rw c.from_residual-in_err-count_of.ensures (counted_unfit c.in_ok-word.ensures (search rules) c.in_err-count_of.ensures)
 
 pub returns : goal.returns
-returns c =
-    let next = c.next_word-word.ensures in
-    counted_reaches next _ c.any_words.result c.if-start-end.false c.in-Of.ensures c.any_words.ensures
+returns c = let next = c.in_ok-word.ensures in reaches_from _ (next_follows next) (counted_is next _ c.in_ok-count_of.ensures) c.any_words.ensures

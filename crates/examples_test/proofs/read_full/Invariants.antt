@@ -1,9 +1,0 @@
--- So many bytes have been read.
-use Rattle.std.proofs.Common.{length, ◌-◌, ◌≤◌}
-use Rattle.examples_test.proofs.read_full.Given as goal
-
-abbrev pub invariant-loop-size : goal.invariant-loop-size
-invariant-loop-size g l = l.size ≤ length l.bytes
-
-abbrev pub decreases-loop-size : goal.decreases-loop-size
-decreases-loop-size g l = length l.bytes - l.size

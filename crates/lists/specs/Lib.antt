@@ -1,2 +1,0 @@
--- What the code's contracts cite beside the definitions of the crate roommates.
-pub mod Hits

@@ -1,0 +1,84 @@
+// What the program counts, and prints at its end.
+use crate::{Answer, Quote};
+use rules::Phase;
+use std::fmt;
+use tally::{Comparisons, add};
+
+// Quotes of one part, and their answers summed.
+#[derive(Clone, Copy, Default)]
+pub struct Part {
+    quotes: u32,
+    sum: u32,
+}
+
+impl Part {
+    pub fn note(&mut self, said: Answer) {
+        add(&mut self.quotes, 1);
+        add(&mut self.sum, (number_of(said) % 4294967296) as u32);
+    }
+}
+
+impl fmt::Display for Part {
+    fn fmt<W: fmt::Write>(&self, f: &mut fmt::Formatter<W>) -> fmt::Result {
+        write!(f, "{} {}", self.quotes, self.sum)
+    }
+}
+
+#[derive(Clone, Copy, Default)]
+pub struct Counts {
+    pub comparisons: Comparisons,
+    pub pairs: Part,
+    pub sheets: Part,
+    payable: u32,
+    none_one: u32,
+    none_two: u32,
+    refused: [u32; 17],
+}
+
+// An answer as one number: that of a refusal, 101 or 102 for none with its phase, 1000 and the sum.
+fn number_of(answer: Answer) -> u64 {
+    match answer {
+        Err(number) => u64::from(number),
+        Ok(Quote::None(Phase::One)) => 101,
+        Ok(Quote::None(Phase::Two)) => 102,
+        Ok(Quote::Payable(sum)) => sum.wrapping_add(1000),
+    }
+}
+
+impl Counts {
+    // Counts an answer by its kind.
+    pub fn note_kind(&mut self, said: Answer) {
+        match said {
+            Ok(Quote::Payable(_)) => add(&mut self.payable, 1),
+            Ok(Quote::None(Phase::One)) => add(&mut self.none_one, 1),
+            Ok(Quote::None(Phase::Two)) => add(&mut self.none_two, 1),
+            Err(number) => {
+                if let Some(count) = self.refused.get_mut(usize::from(number.wrapping_sub(1))) {
+                    add(count, 1);
+                }
+            }
+        }
+    }
+}
+
+impl fmt::Display for Counts {
+    fn fmt<W: fmt::Write>(&self, f: &mut fmt::Formatter<W>) -> fmt::Result {
+        writeln!(f, "{}", self.comparisons)?;
+        writeln!(
+            f,
+            "quotes of 0 to 64 pairs, their answers summed to 32 bits: {}",
+            self.pairs
+        )?;
+        writeln!(f, "quotes of random sheets, likewise: {}", self.sheets)?;
+        writeln!(
+            f,
+            "a sum, none phase 1, none phase 2: {} {} {}",
+            self.payable, self.none_one, self.none_two
+        )?;
+        write!(f, "refused 1 to 17:")?;
+        for count in self.refused {
+            write!(f, " {count}")?;
+        }
+        Ok(())
+    }
+}

@@ -1,9 +1,0 @@
--- i steps are left.
-use Prim.Native.Nat.{◌≤◌}
-use Rattle.replay.proofs.replayed.Given as goal
-
-abbrev pub invariant-loop-i : goal.invariant-loop-i
-invariant-loop-i l = l.i ≤ 64
-
-abbrev pub decreases-loop-i : goal.decreases-loop-i
-decreases-loop-i l = l.i

@@ -1,9 +1,0 @@
--- i steps are made.
-use Rattle.std.proofs.Common.{◌-◌, ◌≤◌}
-use Rattle.rules.proofs.phases.trial.Given as goal
-
-abbrev pub invariant-loop-i : goal.invariant-loop-i
-invariant-loop-i l = l.i ≤ 64
-
-abbrev pub decreases-loop-i : goal.decreases-loop-i
-decreases-loop-i l = 64 - l.i

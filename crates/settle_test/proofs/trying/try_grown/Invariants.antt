@@ -1,9 +1,0 @@
--- i records are drawn.
-use Rattle.std.proofs.Common.{◌-◌, ◌≤◌}
-use Rattle.settle_test.proofs.trying.try_grown.Given as goal
-
-abbrev pub invariant-loop-i : goal.invariant-loop-i
-invariant-loop-i l = l.i ≤ 20
-
-abbrev pub decreases-loop-i : goal.decreases-loop-i
-decreases-loop-i l = 20 - l.i

@@ -1,0 +1,147 @@
+// What the program counts, and prints at its end; and the number of each comparison.
+use replay::Record;
+use rules::{Call, End, Phase, Said, Stage, Work};
+use std::fmt;
+use tally::{Comparisons, add};
+
+// What is compared.
+#[derive(Clone, Copy)]
+pub enum What {
+    // The library beside the rules: its answer, its buffer, its counts.
+    Answer = 1,
+    Buffer = 2,
+    Counts = 3,
+    // The rules beside every matching: the verdict and the pairing, and which joints are paired.
+    Verdict = 4,
+    Joints = 5,
+    // The library beside rows of document 01, whose sheets are numbered by their count of joints or their bands.
+    RowN = 6,
+    RowO = 7,
+}
+
+// What a call answers: within the rules, or refused by each of these numbers.
+#[derive(Clone, Copy, Default)]
+struct Answers {
+    within: u32,
+    refused: [u32; 6],
+}
+
+const REFUSALS: [u8; 6] = [9, 11, 12, 13, 14, 15];
+
+impl Answers {
+    fn note(&mut self, said: Result<Said, u8>) {
+        let place = REFUSALS.iter().position(|k| said == Err(*k));
+        match place.and_then(|i| self.refused.get_mut(i)) {
+            Some(count) => add(count, 1),
+            None => add(&mut self.within, 1),
+        }
+    }
+}
+
+impl fmt::Display for Answers {
+    fn fmt<W: fmt::Write>(&self, f: &mut fmt::Formatter<W>) -> fmt::Result {
+        write!(f, "{}", self.within)?;
+        for count in self.refused {
+            write!(f, " {count}")?;
+        }
+        Ok(())
+    }
+}
+
+#[derive(Clone, Copy, Default)]
+pub struct Counts {
+    pub comparisons: Comparisons,
+    pub matchings: u32,
+    pub sheets: u32,
+    // Sheets with an entry that is not returned.
+    pub one_sided: u32,
+    // With no choices.
+    paired: u32,
+    none_one: u32,
+    none_two: u32,
+    pub stable: u32,
+    // Sheets with more than one super-stable matching.
+    pub several: u32,
+    proposals: u32,
+    cuts: u32,
+    // Records of the lists that grow.
+    steps: u32,
+    marks: u32,
+    returns: u32,
+    returns_from_end: u32,
+    settle: Answers,
+    shorten: Answers,
+}
+
+impl Counts {
+    // What is counted of settle's working with no choices.
+    pub fn note_end(&mut self, end: &Work) {
+        match end.stage {
+            Stage::Ended(End::Paired) => add(&mut self.paired, 1),
+            Stage::Ended(End::None(Phase::One)) => add(&mut self.none_one, 1),
+            _ => add(&mut self.none_two, 1),
+        }
+        add(&mut self.proposals, end.proposals);
+        add(&mut self.cuts, end.cuts);
+    }
+
+    // What is counted of a record that is met where settle's working stands so.
+    pub fn note_record(&mut self, record: Record, stage: Stage) {
+        match record {
+            Record::Step(_) => add(&mut self.steps, 1),
+            Record::Mark(_) => add(&mut self.marks, 1),
+            Record::Return(_) => {
+                add(&mut self.returns, 1);
+                add(
+                    &mut self.returns_from_end,
+                    u32::from(matches!(stage, Stage::Ended(_))),
+                );
+            }
+        }
+    }
+
+    pub fn note_answer(&mut self, call: Call, said: Result<Said, u8>) {
+        match call {
+            Call::Settle => self.settle.note(said),
+            Call::Shorten => self.shorten.note(said),
+        }
+    }
+}
+
+impl fmt::Display for Counts {
+    fn fmt<W: fmt::Write>(&self, f: &mut fmt::Formatter<W>) -> fmt::Result {
+        writeln!(f, "{}", self.comparisons)?;
+        writeln!(f, "matchings of 8 joints: {}", self.matchings)?;
+        writeln!(
+            f,
+            "sheets, with an entry that is not returned: {} {}",
+            self.sheets, self.one_sided
+        )?;
+        writeln!(
+            f,
+            "pairing, none phase 1, none phase 2: {} {} {}",
+            self.paired, self.none_one, self.none_two
+        )?;
+        writeln!(
+            f,
+            "super-stable matchings, sheets with more than one: {} {}",
+            self.stable, self.several
+        )?;
+        writeln!(f, "proposals, cuts: {} {}", self.proposals, self.cuts)?;
+        writeln!(
+            f,
+            "steps, marks, returns, returns from an end: {} {} {} {}",
+            self.steps, self.marks, self.returns, self.returns_from_end
+        )?;
+        writeln!(
+            f,
+            "settle within the rules, refused 9, 11 to 15: {}",
+            self.settle
+        )?;
+        write!(
+            f,
+            "shorten within the rules, refused 9, 11 to 15: {}",
+            self.shorten
+        )
+    }
+}

@@ -1,9 +1,0 @@
--- The loop stands at row r.
-use Rattle.std.proofs.Common.{◌-◌, ◌≤◌}
-use Rattle.skeleton_test.proofs.every.try_matchings.Given as goal
-
-abbrev pub invariant-loop-r : goal.invariant-loop-r
-invariant-loop-r l = l.r ≤ 764
-
-abbrev pub decreases-loop-r : goal.decreases-loop-r
-decreases-loop-r l = 764 - l.r

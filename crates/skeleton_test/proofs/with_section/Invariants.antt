@@ -1,9 +1,0 @@
--- The loop stands at joint i.
-use Rattle.std.proofs.Common.{◌-◌, ◌≤◌}
-use Rattle.skeleton_test.proofs.with_section.Given as goal
-
-abbrev pub invariant-loop-i : goal.invariant-loop-i
-invariant-loop-i l = l.i ≤ 8
-
-abbrev pub decreases-loop-i : goal.decreases-loop-i
-decreases-loop-i l = 8 - l.i
