@@ -1,7 +1,8 @@
 -- The starred rows of documents 01 and 02, rows of the same sheets that call shorten and the counts, rows with marks and returns, rows that tell
 -- the rule from others, and rows of a sheet with an entry that is not returned: for each call what it answers, and the buffer before and after
 -- settle and shorten.
-use Rattle.std.specs.Prelude.{◌≡◌, Bool, true, false, ◌||◌, cond, List, [], ◌∷◌, ◌++◌, Option, Some, None, Result, Ok, Err, ℕ, suc, ◌+◌, ◌%◌, ◌/◌, eqb, length, replicate}
+use Rattle.std.specs.Prelude.{◌≡◌, Bool, true, false, ◌||◌, cond}
+use Rattle.std.specs.Prelude.{List, [], ◌∷◌, ◌++◌, Option, Some, None, Result, Ok, Err, ℕ, suc, ◌+◌, ◌%◌, ◌/◌, eqb, length, replicate}
 use Rattle.base.specs.Below.{joined}
 use Rattle.refusals.specs.declared.Refusal.{Refusal}
 use Rattle.refusals.specs.declared.Refusal.TheVariants.{

@@ -1,5 +1,5 @@
 -- A refused sheet's refusal, or what its joints and lists give.
-use Rattle.std.proofs.Common.{rules, ◌≡◌, Err, sym, ◌∙◌}
+use Rattle.std.proofs.Common.{rules, ◌≡◌, Ok, Err, sym, ◌∙◌}
 use native.Mathlib.Omega.{arith}
 use Rattle.sheet.specs.Square.{square_of}
 use Rattle.sheet.proofs.Accepted.{accepted}
@@ -9,7 +9,9 @@ use Rattle.offered.proofs.check.Goals as goal
 use Rattle.offered.proofs.check.Goals.{In_ok-parts}
 
 parts : (c : In_ok-parts) → ReadAs c.args.sheet.now c.in_ok-parts.parts
-parts c = read_as c.args.sheet.now c.in_ok-parts.parts (sym c.lists.ensures.value ∙ c.in_ok-parts.was)
+parts c =
+    let read : c.lists.result ≡ Ok c.in_ok-parts.parts = search rules in
+    read_as c.args.sheet.now c.in_ok-parts.parts (sym c.lists.ensures.value ∙ read)
 
 filled : (c : In_ok-parts) → c.lists.new.bands ≡ square_of c.args.sheet.now
 filled c = c.lists.ensures.bands_after ∙ square_filled c.args.sheet.now _ (parts c).faultless
@@ -17,7 +19,8 @@ filled c = c.lists.ensures.bands_after ∙ square_filled c.args.sheet.now _ (par
 pub returns-in_err-parts : goal.returns-in_err-parts
 returns-in_err-parts c =
     let same : c.from_residual.result ≡ Err c.in_err-parts.field-0.0 = search rules in
-    same ∙ check_refused c.args.sheet.now c.args.pairing.now _ (sym c.lists.ensures.value ∙ c.in_err-parts.was)
+    let refused : c.lists.result ≡ Err c.in_err-parts.field-0.0 = search rules in
+    same ∙ check_refused c.args.sheet.now c.args.pairing.now _ (sym c.lists.ensures.value ∙ refused)
 
 pub invariant_of-joints : goal.invariant_of-joints
 invariant_of-joints c =
