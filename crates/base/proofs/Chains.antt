@@ -1,12 +1,15 @@
 -- What chains of iterators over numbers and slices tell, in the words of `Below`: each premise is what `search (rules, ranges)` finds.
-use Rattle.std.proofs.Common.{◌≡◌, ℕ, zero, suc, ◌<◌, ◌≤◌, Bool, true, false, refl, sym, ◌∙◌, List, length, get_or, take, count_by, Option, Some, None, IfSome, arith, add-one}
+use Rattle.std.proofs.Common.{◌≡◌, ℕ, zero, suc, ◌<◌, ◌≤◌, Bool, true, false, refl, sym, ◌∙◌, List, length, get_or, take, count_by, ap, Option, Some, None, IfSome, arith, add-one}
 use borrow.Author.Tests.{lt-ltb, le-ltb}
+use Rattle.std.specs.List.{range_with_len}
+use Rattle.std.proofs.Math.Seq.{take-length}
+use Rattle.std.proofs.lemmas.List.FromFn.{length-range_with_len, get_or-range_with_len}
 use Rattle.std.proofs.lemmas.List.Sums.{count_by_more_yes, count_by_more_no}
 use Rattle.base.specs.Below.{any_below, all_below, count_below, lowest, first_below}
 use Rattle.base.proofs.Cases.{case, both_ways, lt_ge}
 use Rattle.base.proofs.AnyBelow.{any_hit, none_any}
 use Rattle.base.proofs.AllBelow.{all_pass, all_miss}
-use Rattle.base.proofs.CountBelow.{count_zero, count_hit, count_miss}
+use Rattle.base.proofs.CountBelow.{count_zero, count_hit, count_miss, count_same}
 use Rattle.base.proofs.Lowest.{lowest_law, lowest_below, lowest_passes, some_passes}
 use Rattle.base.proofs.Tests.{never}
 
@@ -61,3 +64,12 @@ count_taken (suc n) p l h =
     (case (both_ways (p (get_or l n 0)))
     (λ t. count_by_more_yes p l n 0 (omega arith) t ∙ count_hit n (λ b. p (get_or l b 0)) e t)
     (λ t. count_by_more_no p l n 0 (omega arith) t ∙ count_miss n (λ b. p (get_or l b 0)) e t))
+
+-- .. and over a range
+pub count_range : (n : ℕ) (p : ℕ → Bool) → count_by p (range_with_len 0 n) ≡ count_below n p
+count_range n p =
+    let l = range_with_len 0 n in
+    let long : length l ≡ n = length-range_with_len 0 n in
+    let all : count_by p (take (length l) l) ≡ count_below (length l) (λ b. p (get_or l b 0)) = count_taken (length l) p l (omega arith) in
+    let there = λ (b : ℕ) (h : b < n). let e : get_or l b 0 ≡ b = omega (arith, get_or-range_with_len 0 n b 0 h) in ap p e in
+    (rw (take-length, long) at all) ∙ count_same n _ _ there

@@ -1,84 +1,92 @@
 // Which pair blocks a matching, and what offered partner bytes are worth.
 #![tactic(auto)]
 
-ghost use Rattle.std.specs.Prelude.{true, ◌≡◌, ◌<◌, length};
+ghost use Rattle.std.specs.Prelude.{true, ◌≡◌, ◌<◌};
 ghost use Rattle.matching.specs.Matchings.{is_matching};
 ghost use Rattle.blocking.specs.Blocking.{welcomes, is_apart, blocks, first_blocker, pair_below, blocking_pair};
 ghost use Rattle.blocking.specs.Answers.{offer_of};
 
-use matching::{is_matching, pair_number, partner};
+use matching::{Offered, pair_number, partner};
 use refusals::Refusal;
 use sections::Joints;
 
-// a is unpaired, or has b in a band no worse than its partner's.
-#[tactic(auto, unfolding(crate::specs::Blocking::welcomes))]
-fn welcomes(n: Joints, bands: &[[u8; 128]; 128], pairing: &[u8], a: usize, b: usize) -> bool
-    requires matching { is_matching n.count bands.now pairing.now ≡ true }
-    requires in_bounds { (a < n.count) × (b < n.count) }
-    ensures { result ≡ welcomes bands.now pairing.now a b }
-{
-    let offered = bands[a][b];
-    match partner(pairing, a) {
-        None => true,
-        Some(p) => offered <= bands[a][p],
+// Partner bytes that are a matching.
+#[derive(Clone, Copy)]
+struct Matched<'a> {
+    joints: Joints,
+    bands: &'a [[u8; 128]; 128],
+    pairing: &'a [u8],
+    ghost matching: { is_matching joints.count bands.now pairing.now ≡ true },
+}
+
+impl Matched<'_> {
+    // a is unpaired, or has b in a band no worse than its partner's.
+    #[tactic(auto, unfolding(crate::specs::Blocking::welcomes))]
+    fn welcomes(&self, a: usize, b: usize) -> bool
+        requires { (a < self.now.joints.count) × (b < self.now.joints.count) }
+        ensures { result ≡ welcomes self.now.bands.now self.now.pairing.now a b }
+    {
+        let offered = self.bands[a][b];
+        match partner(self.pairing, a) {
+            None => true,
+            Some(p) => offered <= self.bands[a][p],
+        }
     }
-}
 
-// a and b list each other and are not paired together.
-#[tactic(auto, unfolding(crate::specs::Blocking::is_apart))]
-fn is_apart(bands: &[[u8; 128]; 128], pairing: &[u8], a: usize, b: usize) -> bool
-    requires { (a < 128) × (b < 128) × (a < length pairing.now) }
-    ensures { result ≡ is_apart bands.now pairing.now a b }
-{
-    0 < bands[a][b] && 0 < bands[b][a] && partner(pairing, a) != Some(b)
-}
+    // a and b list each other and are not paired together.
+    #[tactic(auto, unfolding(crate::specs::Blocking::is_apart))]
+    fn is_apart(&self, a: usize, b: usize) -> bool
+        requires { (a < self.now.joints.count) × (b < self.now.joints.count) }
+        ensures { result ≡ is_apart self.now.bands.now self.now.pairing.now a b }
+    {
+        0 < self.bands[a][b] && 0 < self.bands[b][a] && partner(self.pairing, a) != Some(b)
+    }
 
-#[tactic(auto, unfolding(crate::specs::Blocking::blocks))]
-fn blocks(n: Joints, bands: &[[u8; 128]; 128], pairing: &[u8], a: usize, b: usize) -> bool
-    requires matching { is_matching n.count bands.now pairing.now ≡ true }
-    requires in_bounds { (a < n.count) × (b < n.count) }
-    ensures { result ≡ blocks bands.now pairing.now a b }
-{
-    is_apart(bands, pairing, a, b)
-        && welcomes(n, bands, pairing, a, b)
-        && welcomes(n, bands, pairing, b, a)
-}
+    #[tactic(auto, unfolding(crate::specs::Blocking::blocks))]
+    fn blocks(&self, a: usize, b: usize) -> bool
+        requires { (a < self.now.joints.count) × (b < self.now.joints.count) }
+        ensures { result ≡ blocks self.now.bands.now self.now.pairing.now a b }
+    {
+        self.is_apart(a, b) && self.welcomes(a, b) && self.welcomes(b, a)
+    }
 
-// The lowest joint below b that blocks with b.
-fn blocker(n: Joints, bands: &[[u8; 128]; 128], pairing: &[u8], b: usize) -> Option<usize>
-    requires matching { is_matching n.count bands.now pairing.now ≡ true }
-    requires b_in_bounds { b < n.count }
-    ensures { result ≡ first_blocker bands.now pairing.now b }
-{
-    (0..b).find(|a| blocks(n, bands, pairing, *a, b))
-}
+    // The lowest joint below b that blocks with b.
+    fn blocker(&self, b: usize) -> Option<usize>
+        requires { b < self.now.joints.count }
+        ensures { result ≡ first_blocker self.now.bands.now self.now.pairing.now b }
+    {
+        (0..b).find(|a| self.blocks(*a, b))
+    }
 
-// The number of the lowest pair that blocks and has b as its higher joint.
-fn pair_below(n: Joints, bands: &[[u8; 128]; 128], pairing: &[u8], b: usize) -> Option<u32>
-    requires matching { is_matching n.count bands.now pairing.now ≡ true }
-    requires b_in_bounds { b < n.count }
-    ensures { result ≡ pair_below bands.now pairing.now b }
-{
-    let a = blocker(n, bands, pairing, b)?;
-    Some(pair_number(a, b) as u32)
-}
+    // The number of the lowest pair that blocks and has b as its higher joint.
+    fn pair_below(&self, b: usize) -> Option<u32>
+        requires { b < self.now.joints.count }
+        ensures { result ≡ pair_below self.now.bands.now self.now.pairing.now b }
+    {
+        let a = self.blocker(b)?;
+        Some(pair_number(a, b) as u32)
+    }
 
-// The number of the lowest pair that blocks a matching.
-fn blocking_pair(n: Joints, bands: &[[u8; 128]; 128], pairing: &[u8]) -> Option<u32>
-    requires { is_matching n.count bands.now pairing.now ≡ true }
-    ensures { result ≡ blocking_pair n.count bands.now pairing.now }
-{
-    (0..n.count).find_map(|b| pair_below(n, bands, pairing, b))
+    // The number of the lowest pair that blocks.
+    fn blocking_pair(&self) -> Option<u32>
+        ensures { result ≡ blocking_pair self.now.joints.count self.now.bands.now self.now.pairing.now }
+    {
+        (0..self.joints.count).find_map(|b| self.pair_below(b))
+    }
 }
 
 // The answer to an offered pairing: that it holds, or the number of the lowest pair that blocks it.
 #[tactic(auto, unfolding(crate::specs::Answers::offer_of))]
-pub fn offer(n: Joints, bands: &[[u8; 128]; 128], pairing: &[u8]) -> Result<Option<u32>, Refusal>
-    ensures { result ≡ offer_of n.count bands.now pairing.now }
+pub fn offer(offered: &Offered) -> Result<Option<u32>, Refusal>
+    ensures { result ≡ offer_of offered.now.joints.count offered.now.bands.now offered.now.pairing.now }
 {
-    if is_matching(n, bands, pairing) {
-        Ok(blocking_pair(n, bands, pairing))
-    } else {
-        Err(Refusal::NoPairingOffered)
+    if !offered.is_matching() {
+        return Err(Refusal::NoPairingOffered);
     }
+    let matched = Matched {
+        joints: offered.joints,
+        bands: offered.bands,
+        pairing: offered.pairing,
+    };
+    Ok(matched.blocking_pair())
 }

@@ -23,28 +23,41 @@ pub fn partner(pairing: &[u8], a: usize) -> Option<usize>
     }
 }
 
-// a has the partner p: a joint that a lists and whose partner is a.
-#[tactic(auto, unfolding(crate::specs::Matchings::is_paired))]
-fn is_paired(n: Joints, bands: &[[u8; 128]; 128], pairing: &[u8], a: usize, p: usize) -> bool
-    requires { (length pairing.now ≡ n.count) × (a < n.count) }
-    ensures { result ≡ is_paired n.count bands.now pairing.now a p }
-{
-    p < n.count && partner(pairing, p) == Some(a) && 0 < bands[a][p]
+// Partner bytes that are offered over a sheet's joints and its square of bands.
+#[derive(Clone, Copy)]
+pub struct Offered<'a> {
+    pub joints: Joints,
+    pub bands: &'a [[u8; 128]; 128],
+    pub pairing: &'a [u8],
 }
 
-#[tactic(auto, unfolding(crate::specs::Matchings::is_placed))]
-fn is_placed(n: Joints, bands: &[[u8; 128]; 128], pairing: &[u8], a: usize) -> bool
-    requires { (length pairing.now ≡ n.count) × (a < n.count) }
-    ensures { result ≡ is_placed n.count bands.now pairing.now a }
-{
-    partner(pairing, a).is_none_or(|p| is_paired(n, bands, pairing, a, p))
-}
+impl Offered<'_> {
+    // a has the partner p: a joint that a lists and whose partner is a.
+    #[tactic(auto, unfolding(crate::specs::Matchings::is_paired))]
+    fn is_paired(&self, a: usize, p: usize) -> bool
+        requires { (length self.now.pairing.now ≡ self.now.joints.count) × (a < self.now.joints.count) }
+        ensures { result ≡ is_paired self.now.joints.count self.now.bands.now self.now.pairing.now a p }
+    {
+        p < self.joints.count && partner(self.pairing, p) == Some(a) && 0 < self.bands[a][p]
+    }
 
-// As many bytes as joints, each joint unpaired or paired with one that it lists and that has it as its partner.
-pub fn is_matching(n: Joints, bands: &[[u8; 128]; 128], pairing: &[u8]) -> bool
-    ensures { result ≡ is_matching n.count bands.now pairing.now }
-{
-    pairing.len() == n.count && (0..n.count).all(|a| is_placed(n, bands, pairing, a))
+    #[tactic(auto, unfolding(crate::specs::Matchings::is_placed))]
+    fn is_placed(&self, a: usize) -> bool
+        requires { (length self.now.pairing.now ≡ self.now.joints.count) × (a < self.now.joints.count) }
+        ensures { result ≡ is_placed self.now.joints.count self.now.bands.now self.now.pairing.now a }
+    {
+        match partner(self.pairing, a) {
+            None => true,
+            Some(p) => self.is_paired(a, p),
+        }
+    }
+
+    // As many bytes as joints, each joint unpaired or paired with one that it lists and that has it as its partner.
+    pub fn is_matching(&self) -> bool
+        ensures { result ≡ is_matching self.now.joints.count self.now.bands.now self.now.pairing.now }
+    {
+        self.pairing.len() == self.joints.count && (0..self.joints.count).all(|a| self.is_placed(a))
+    }
 }
 
 // How many joints the bytes pair.

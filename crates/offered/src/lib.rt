@@ -5,6 +5,7 @@ ghost use Rattle.std.specs.Prelude.{◌≡◌};
 ghost use Rattle.offered.specs.Checks.{check_of};
 
 use blocking::offer;
+use matching::Offered;
 use refusals::Refusal;
 use sections::Joints;
 
@@ -18,5 +19,9 @@ pub fn check(sheet: &[u8], pairing: &[u8]) -> Result<Option<u32>, Refusal>
     let joints = Joints {
         count: parts.joints,
     };
-    offer(joints, &bands, pairing)
+    offer(&Offered {
+        joints,
+        bands: &bands,
+        pairing,
+    })
 }

@@ -7,35 +7,34 @@ ghost use Rattle.std.specs.Prelude.{◌≡◌};
 ghost use Rattle.parents.specs.Claims.{IsSection};
 ghost use Rattle.skeleton.specs.Answers.{follow_lists, follow_of};
 
-use matching::is_matching;
+use matching::Offered;
 use posed::Posed;
 use refusals::Refusal;
 use sections::Joints;
 
 // The pairs that do not follow: how many they are, and the lowest of their numbers.
-#[derive(Clone, Copy)]
+#[derive(Clone, Copy, PartialEq, Eq, Debug)]
 pub struct Strays {
     pub pairs: u32,
     pub lowest: u32,
 }
 
 // Judges an offered pairing over an accepted sheet's joints, square and third section.
-fn follow_lists(
-    n: Joints,
-    bands: &[[u8; 128]; 128],
-    third: &[u8],
-    pairing: &[u8],
-) -> Result<Option<Strays>, Refusal>
-    requires { IsSection n.count third.now }
-    ensures { result ≡ follow_lists n.count bands.now third.now pairing.now }
+fn follow_lists(offered: &Offered, third: &[u8]) -> Result<Option<Strays>, Refusal>
+    requires { IsSection offered.now.joints.count third.now }
+    ensures { result ≡ follow_lists offered.now.joints.count offered.now.bands.now third.now offered.now.pairing.now }
 {
     let Some((_, parents)) = third.split_first() else {
         return Err(Refusal::BadParents);
     };
-    if !is_matching(n, bands, pairing) {
+    if !offered.is_matching() {
         return Err(Refusal::NoPairingOffered);
     }
-    Ok(Posed { parents, pairing }.strays())
+    let posed = Posed {
+        parents,
+        pairing: offered.pairing,
+    };
+    Ok(posed.strays())
 }
 
 // Which pairs of an offered pairing do not follow the skeleton: none, or so many. A refusal of the sheet, then 18, then 10.
@@ -47,5 +46,10 @@ pub fn follow(sheet: &[u8], pairing: &[u8]) -> Result<Option<Strays>, Refusal>
     let joints = Joints {
         count: parts.joints,
     };
-    follow_lists(joints, &bands, &sheet[parts.parents..], pairing)
+    let offered = Offered {
+        joints,
+        bands: &bands,
+        pairing,
+    };
+    follow_lists(&offered, &sheet[parts.parents..])
 }

@@ -46,14 +46,9 @@ impl Posed<'_> {
     fn count_strays(&self) -> usize
         ensures { result ≡ stray_count self.now.parents.now self.now.pairing.now }
     {
-        // A loop: the proof of a chain, `filter` and `count` over the range, was tried and did not close.
-        let mut pairs: usize = 0;
-        for b in 0..self.pairing.len() {
-            if self.is_stray(b) {
-                pairs += 1;
-            }
-        }
-        pairs
+        (0..self.pairing.len())
+            .filter(|b| self.is_stray(*b))
+            .count()
     }
 
     // The lowest joint that is the higher one of such a pair.

@@ -120,21 +120,30 @@ fn drawn_matching(rows: &Matchings, bands: &Bands, seed: usize) -> Pairing {
         .unwrap_or([NONE; 8])
 }
 
-// A pairing and its length. Of sixteen pairings one has a byte more (fewer where there are 8 joints) and one a byte less, in one a joint is made
-// unpaired, in one a joint has any number up to 8 as its partner, and in two any two joints are paired and no others. A draw and no enum, since
-// nothing else reads it.
-fn changed(mut m: Pairing, n: usize, draw: usize, x: usize) -> (Pairing, usize)
+// How many bytes of a pairing are lent: of sixteen one has a byte more (fewer where there are 8 joints) and one a byte less.
+fn lent(n: usize, draw: usize) -> usize
     requires { n ≤ 8 }
-    ensures { result.1 ≤ 8 }
+    ensures { result ≤ 8 }
+{
+    match draw {
+        0 if n == 8 => 7,
+        1 if n != 0 => n - 1,
+        0 | 1 => n + 1,
+        _ => n,
+    }
+}
+
+// Of the others a joint is made unpaired in one, in one a joint has any number up to 8 as its partner, and in two any two joints are paired
+// and no others. A draw and no enum, since nothing else reads it.
+fn changed(mut m: Pairing, n: usize, draw: usize, x: usize) -> Pairing
+    requires { n ≤ 8 }
 {
     if n == 0 {
-        return (m, if draw < 2 { 1 } else { 0 });
+        return m;
     }
     let a = x % n;
     let b = x / 8 % n;
     match draw {
-        0 => return (m, if n == 8 { 7 } else { n + 1 }),
-        1 => return (m, n - 1),
         2 => m[a] = NONE,
         3 => m[a] = (x / 8 % 9) as u8,
         4 | 5 => {
@@ -144,7 +153,7 @@ fn changed(mut m: Pairing, n: usize, draw: usize, x: usize) -> (Pairing, usize)
         }
         _ => {}
     }
-    (m, n)
+    m
 }
 
 // One call on a random sheet. The section's refusal comes first, then 10 of the pairing.
@@ -158,12 +167,13 @@ fn try_sheet(rt: &impl Print, counts: &mut Counts, rows: &Matchings, round: u32)
     let z = next(y) as usize;
     let damage = Damage::drawn(x);
     let third = drawn_third(n, damage, y);
-    let matching = drawn_matching(rows, &sheet.bands, z);
-    let (m, size) = changed(matching, n, y as usize % 16, z);
-    let is_bad = size != n || worth(&sheet.bands, &m).is_none();
+    let draw = y as usize % 16;
+    let m = changed(drawn_matching(rows, &sheet.bands, z), n, draw, z);
+    let pairing = &m[..lent(n, draw)];
+    let is_bad = pairing.len() != n || worth(&sheet.bands, &m).is_none();
     let refused = damage.refused(n).or(if is_bad { Some(10) } else { None });
     let case = Case::new(Part::Drawn, round, &sheet, third);
-    try_call(rt, counts, &case, &m, size, refused)
+    try_call(rt, counts, &case, pairing, refused)
 }
 
 pub fn try_drawn(rt: &impl Print, counts: &mut Counts, rows: &Matchings) -> io::Result<()> {

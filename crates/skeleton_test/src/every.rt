@@ -42,7 +42,7 @@ fn try_matchings(
 {
     for m in rows {
         if m[n..].iter().all(|p| *p == NONE) {
-            try_call(rt, counts, case, m, n, None)?;
+            try_call(rt, counts, case, &m[..n], None)?;
         }
     }
     Ok(())

@@ -7,16 +7,14 @@ mod drawn;
 mod every;
 mod plain;
 
-ghost use Rattle.std.specs.Prelude.{◌≤◌};
-
 use arrayvec::ArrayVec;
 use counts::{Counts, Part};
 use drawn::try_drawn;
 use every::try_every;
-use plain::{Parents, Strays, are_level, judged};
-use reference::{Pairing, matchings};
+use plain::{Parents, are_level, judged};
+use reference::matchings;
 use samples::{Sheet, put};
-use skeleton::follow;
+use skeleton::{Strays, follow};
 use std::io;
 
 // What follow answers: all pairs follow, or those that do not; or the number of a refusal.
@@ -57,38 +55,23 @@ impl Case {
     }
 }
 
-// What follow answers.
-fn followed(sheet: &[u8], pairing: &[u8]) -> Answer {
-    match follow(sheet, pairing) {
-        Err(refusal) => Err(u8::from(refusal)),
-        Ok(None) => Ok(None),
-        Ok(Some(strays)) => Ok(Some(Strays {
-            pairs: strays.pairs,
-            lowest: strays.lowest,
-        })),
-    }
-}
-
-// One call with the first bytes of a pairing, which may be refused. Where all pairs follow, paired joints have equal depth.
+// One call with a pairing, which may be refused. Where all pairs follow, paired joints have equal depth.
 pub fn try_call(
     rt: &impl Print,
     counts: &mut Counts,
     case: &Case,
-    m: &Pairing,
-    size: usize,
+    pairing: &[u8],
     refused: Option<u8>,
-) -> io::Result<()>
-    requires { size ≤ 8 }
-{
-    let said = followed(&case.bytes, &m[..size]);
+) -> io::Result<()> {
+    let said = follow(&case.bytes, pairing).map_err(u8::from);
     let due = match refused {
         Some(number) => Err(number),
-        None => Ok(judged(&case.parents, m)),
+        None => Ok(judged(&case.parents, pairing)),
     };
     counts.note(case.part, said);
     counts.comparisons.compare(rt, 1, case.number, said == due)?;
     if said == Ok(None) {
-        let is_level = are_level(&case.parents, m);
+        let is_level = are_level(&case.parents, pairing);
         counts.comparisons.compare(rt, 2, case.number, is_level)?;
     }
     Ok(())

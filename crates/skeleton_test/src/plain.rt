@@ -2,29 +2,22 @@
 // before which, pairs come by their lower joint, and the least of their numbers is taken.
 ghost use Rattle.std.specs.Prelude.{◌<◌};
 
-use reference::Pairing;
+use skeleton::Strays;
 
 // A byte for the parent of each joint, 255 for a root.
 pub type Parents = [u8; 8];
-
-// How many pairs do not follow, and the lowest of their numbers.
-#[derive(Clone, Copy, PartialEq, Eq)]
-pub struct Strays {
-    pub pairs: u32,
-    pub lowest: u32,
-}
 
 // b × (b − 1) ÷ 2 for each b.
 const FIRST: [u8; 8] = [0, 0, 1, 3, 6, 10, 15, 21];
 
 // Both joints are roots; or neither is, and their parents are paired together or are one joint.
-fn follows(parents: &Parents, m: &Pairing, a: usize, b: usize) -> bool
+fn follows(parents: &Parents, m: &[u8], a: usize, b: usize) -> bool
     requires { (a < 8) × (b < 8) }
 {
     let p = usize::from(parents[a]);
     let q = usize::from(parents[b]);
     if p < 8 && q < 8 {
-        usize::from(m[q]) == p || p == q
+        m.get(q) == Some(&parents[a]) || p == q
     } else {
         8 <= p && 8 <= q
     }
@@ -45,13 +38,12 @@ fn with_stray(found: Option<Strays>, number: u32) -> Strays {
 }
 
 // What is due for a matching: None where all pairs follow.
-pub fn judged(parents: &Parents, m: &Pairing) -> Option<Strays> {
+pub fn judged(parents: &Parents, m: &[u8]) -> Option<Strays> {
     let mut found = None;
-    for a in 0..8 {
-        for b in a + 1..8 {
-            if usize::from(m[a]) == b && !follows(parents, m, a, b) {
-                found = Some(with_stray(found, u32::from(FIRST[b]) + a as u32));
-            }
+    for (a, p) in m.iter().enumerate() {
+        let b = usize::from(*p);
+        if a < b && b < 8 && !follows(parents, m, a, b) {
+            found = Some(with_stray(found, u32::from(FIRST[b]) + a as u32));
         }
     }
     found
@@ -72,9 +64,9 @@ pub fn climbed(parents: &Parents, joint: usize) -> usize
 }
 
 // Have paired joints equal depth?
-pub fn are_level(parents: &Parents, m: &Pairing) -> bool {
-    (0..8).all(|a| {
-        let p = usize::from(m[a]);
-        8 <= p || climbed(parents, a) == climbed(parents, p)
+pub fn are_level(parents: &Parents, m: &[u8]) -> bool {
+    m.iter().enumerate().all(|(a, p)| {
+        let p = usize::from(*p);
+        8 <= a || 8 <= p || climbed(parents, a) == climbed(parents, p)
     })
 }

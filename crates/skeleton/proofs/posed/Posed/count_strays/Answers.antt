@@ -1,21 +1,19 @@
-use Rattle.std.proofs.Common.{◌≡◌, ◌∙◌, length, sym, arith}
-use Rattle.base.proofs.CountBelow.{count_zero, count_hit, count_miss}
+use Rattle.std.proofs.Common.{◌∙◌, length, rules, arith}
+use Rattle.std.specs.List.{range_with_len}
+use Rattle.std.proofs.lemmas.Iterator.{YieldsList-from_range}
+use Rattle.std.proofs.lemmas.Iterator.Consumers.{YieldsList-from_filter, count_from_yields_List}
+use Rattle.std.proofs.lemmas.List.Sums.{length-filter}
+use Rattle.base.proofs.Chains.{count_range}
+use Rattle.skeleton.specs.Following.{is_stray}
 use Rattle.skeleton.proofs.posed.Posed.count_strays.Goals as goal
-use Rattle.skeleton.proofs.posed.Posed.count_strays.Goals.{else-is_stray, then-is_stray}
-
-pub loop-b-init : goal.loop-b-init
-loop-b-init c = (omega arith, sym (count_zero _))
-
-pub loop-b-preserved : goal.loop-b-preserved
-loop-b-preserved c =
-    let here = sym c.is_stray.ensures in
-    let so_far = c.loop-b.invariant.1 in
-    (elim c.if-is_stray.branch [
-      | then-is_stray w ↦ (omega arith, w.pairs-is ∙ count_hit _ _ so_far (here ∙ w.if-is_stray.true))
-      | else-is_stray w ↦ (omega arith, w.pairs-is ∙ count_miss _ _ so_far (here ∙ w.if-is_stray.false))
-    ])
 
 pub returns : goal.returns
 returns c =
-    let end : c.loop-b.b ≡ length c.args.self.now.pairing.now = omega arith in
-    rw end at c.loop-b.invariant.1
+    let s = c.args.self.now in
+    let n = length s.pairing.now in
+    let test = is_stray s.parents.now s.pairing.now in
+    let all = YieldsList-from_range 0 n n c.filter.ensures.source (omega arith) in
+    count_from_yields_List c.filter.result c.count.result c.count.ensures.ran
+    (YieldsList-from_filter _ test all c.filter.ensures.closure (λ x r q k. search rules))
+    ∙ length-filter test (range_with_len 0 n)
+    ∙ count_range n test

@@ -1,0 +1,14 @@
+-- In a matching a partner is a joint, so the index is in range.
+use Rattle.std.proofs.Common.{◌<◌, arith}
+use Rattle.matching.proofs.MatchingTest.{as_many, joint_some}
+use Rattle.blocking.proofs.Matched.welcomes.Goals as goal
+
+pub partner-requires : goal.partner-requires
+partner-requires c = omega (arith, as_many _ _ _ c.args.self.now.matching)
+
+pub bounds-self-p : goal.bounds-self-p
+bounds-self-p c =
+    let s = c.args.self.now in
+    let few = s.joints.few in
+    let joint : c.in-Some.p < s.joints.count = joint_some _ _ _ s.matching _ c.requires.0 c.in-Some.ensures in
+    omega arith
