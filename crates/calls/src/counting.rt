@@ -5,14 +5,18 @@ ghost use Rattle.calls.specs.Calls.{end_counts, counts_of};
 
 use crate::Counts;
 use sheet::Rankings;
-use stages::Working;
+use stages::{Task, Working};
 use steering::steer;
 
 // `whole` is a flag, as C's call has it.
 fn count_lists(rankings: &Rankings, choices: &[u8], whole: bool) -> Counts
     ensures { result ≡ end_counts (worked_by whole rankings.now.joints.count rankings.now.bands choices.now) }
 {
-    let mut working = Working::begin(rankings.joints, &rankings.bands, whole);
+    let task = Task {
+        joints: rankings.joints,
+        whole,
+    };
+    let mut working = Working::begin(task, &rankings.bands);
     let steered = steer(&mut working, choices);
     Counts {
         refusal: steered.err(),

@@ -12,7 +12,7 @@ use results::write_partners;
 use roommates::Stage;
 use sections::Joints;
 use sheet::Rankings;
-use stages::Working;
+use stages::{Task, Working};
 use steering::steer;
 
 // The pairing where a working ended goes to the first n bytes; its count of pairs.
@@ -35,7 +35,11 @@ pub fn settle_lists(rankings: &Rankings, choices: &[u8], out: &mut [u8]) -> Resu
     if out.len() < n.count {
         return Err(Refusal::OutTooShort);
     }
-    let mut working = Working::begin(rankings.joints, &rankings.bands, true);
+    let task = Task {
+        joints: rankings.joints,
+        whole: true,
+    };
+    let mut working = Working::begin(task, &rankings.bands);
     steer(&mut working, choices)?;
     let end = match working.stage {
         Stage::Paired => End::Paired(write_pairing(n, &working.lists, out)),

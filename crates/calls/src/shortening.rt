@@ -7,7 +7,7 @@ use refusals::Refusal;
 use results::write_lists;
 use roommates::Stage;
 use sheet::Rankings;
-use stages::Working;
+use stages::{Task, Working};
 use steering::steer;
 
 // Shortens rankings of m entries: none, or the lists at phase one's end, in sheet form from the buffer's start on, with their count of entries.
@@ -24,7 +24,11 @@ pub fn shorten_lists(
     if out.len() < 2 + 3 * m {
         return Err(Refusal::OutTooShort);
     }
-    let mut working = Working::begin(rankings.joints, &rankings.bands, false);
+    let task = Task {
+        joints: rankings.joints,
+        whole: false,
+    };
+    let mut working = Working::begin(task, &rankings.bands);
     steer(&mut working, choices)?;
     let Stage::Paired = working.stage else {
         return Ok(None);

@@ -51,7 +51,8 @@ pub fn band_size(n: Joints, k: u8, row: &[u8; 128]) -> usize
     count(n, row, |b| b == k)
 }
 
-// the lowest joint of a list's best band; n for an empty list, the number that `lowest` has for none
+// The lowest joint of a list's best band. An Option would be no plainer: on an empty list, too, there is one, as every joint has the
+// best band there, 0; n where there are no joints at all.
 pub fn first_on(n: Joints, row: &[u8; 128]) -> usize
     ensures { result ≡ first_on n.count row.now }
 {

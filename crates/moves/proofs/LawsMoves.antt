@@ -4,13 +4,12 @@ use mathlib.Core.Bool.{true, false, ◌&&◌, true≢false, false≢true}
 use Prim.Native.Nat.{ℕ, ◌+◌}
 use native.Mathlib.Numerals.{add-one}
 use lib.Dec.{ltb}
-use Rattle.std.proofs.Common.{◌⊎◌, Ok, Err}
-use Rattle.base.proofs.Cases.{case}
+use Rattle.std.proofs.Common.{None, Ok, Err}
 use Rattle.refusals.specs.declared.Refusal.{Refusal}
-use Rattle.refusals.specs.declared.Refusal.TheVariants.{ChoiceDoesNotWait, ChoiceHasNoList, ChoiceLeftOver}
+use Rattle.refusals.specs.declared.Refusal.TheVariants.{ChoiceDoesNotWait, ChoiceHasNoList}
 use Rattle.refusals.specs.Numbers.{number_of}
 use Rattle.roommates.specs.declared.Stage.{Stage}
-use Rattle.roommates.specs.declared.Stage.TheVariants.{Proposing, Cutting, NoneOne, NoneTwo, Paired}
+use Rattle.roommates.specs.declared.Stage.TheVariants.{Proposing, Cutting, NoneTwo}
 use Rattle.roommates.specs.Lists.{Square}
 use Rattle.roommates.specs.PhaseOne.{Work, waits, step}
 use Rattle.roommates.specs.PhaseTwo.{Cut, kept, neither, cut_at, longer}
@@ -41,17 +40,11 @@ module _ (x : ℕ) (g h : Working) where
   by_stage s e = ap (λ s. move_in s g.task.whole n w x) e
 
   -- in stage s: refused, or moved to the working v
-  refused : (s : Stage) (r : Refusal) → g.stage ≡ s → move_in s g.task.whole n w x ≡ outcome (number_of r) w → Moved x g g (Err r)
+  pub refused : (s : Stage) (r : Refusal) → g.stage ≡ s → move_in s g.task.whole n w x ≡ outcome (number_of r) w → Moved x g g (Err r)
   refused s r e is = (refl, (sym (by_stage s e ∙ is), λ rule. rule))
 
   moved : (s : Stage) {v : Work} → g.stage ≡ s → move_in s g.task.whole n w x ≡ outcome 0 v → Becomes g v h → Moved x g h (Ok tt)
   moved s e is b = (b.0, (ap (outcome 0) b.1.0 ∙ sym (by_stage s e ∙ is), λ rule. b.1.1))
-
-  pub left_over : (g.stage ≡ NoneOne) ⊎ ((g.stage ≡ NoneTwo) ⊎ (g.stage ≡ Paired)) → Moved x g g (Err ChoiceLeftOver)
-  left_over over =
-      case over
-      (λ e. refused NoneOne ChoiceLeftOver e refl)
-      (λ over. case over (λ e. refused NoneTwo ChoiceLeftOver e refl) (λ e. refused Paired ChoiceLeftOver e refl))
 
   module _ (e : g.stage ≡ Proposing) where
     pub refused_one : (ltb x n && waits n w x) ≡ false → Moved x g g (Err ChoiceDoesNotWait)
@@ -72,7 +65,7 @@ module _ (x : ℕ) (g h : Working) where
       pub moved_two : true ≡ is_kept (cut_at n g.aside g.lists x) → Becomes g (in_two n (work_of counted)) h → Moved x g h (Ok tt)
       moved_two k b = moved Cutting e (rw (may, after_kept n w _ (sym k) is-t, add-one g.cuts) refl) b
 
-      pub none_two : false ≡ is_kept (cut_at n g.aside g.lists x) → h ≡ record counted { stage = NoneTwo; next = n } → Moved x g h (Ok tt)
+      pub none_two : false ≡ is_kept (cut_at n g.aside g.lists x) → h ≡ record counted { stage = NoneTwo; next = None } → Moved x g h (Ok tt)
       unfolding ruled
       none_two k b =
           moved Cutting {v = staged NoneTwo (work_of counted)} e (rw (may, after_neither n w _ (sym k) is-t, add-one g.cuts) refl) (rw b (refl, (refl, refl)))

@@ -11,6 +11,6 @@ abbrev pub Moved : ℕ → Working → Working → Result Unit Refusal → Type 
 Moved x g h r = (h.task ≡ g.task)
     × ((outcome (fault_in r) (work_of h) ≡ move g.task.whole g.task.joints.count (work_of g) x) × (Ruled g → Ruled h))
 
--- one move more does not overflow the counts
+-- One move more does not overflow the counts. No invariant of the type: what the move leaves need not be roomy.
 abbrev pub Roomy : Working → Type 0
 Roomy g = (g.made.proposals ≤ 65536) × (g.cuts ≤ 65536)

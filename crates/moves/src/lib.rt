@@ -51,6 +51,9 @@ pub fn make_move(working: &mut Working, x: usize) -> Result<(), Refusal>
     match working.stage {
         Stage::Proposing => move_one(working, x),
         Stage::Cutting => move_two(working, x),
-        Stage::NoneOne | Stage::NoneTwo | Stage::Paired => Err(Refusal::ChoiceLeftOver),
+        // an arm for each end, since each is a promise of its own that nothing moves it
+        Stage::NoneOne => Err(Refusal::ChoiceLeftOver),
+        Stage::NoneTwo => Err(Refusal::ChoiceLeftOver),
+        Stage::Paired => Err(Refusal::ChoiceLeftOver),
     }
 }

@@ -1,6 +1,7 @@
 -- One turn of phase one's loop: how it goes on, and the two ways in which it stops.
 use mathlib.Core.Path.{◌≡◌, ap}
-use mathlib.Core.Bool.{Bool, cond}
+use mathlib.Core.Bool.{cond}
+use mathlib.Core.Logic.{◌≢◌}
 use mathlib.Core.List.{List}
 use Prim.Native.Nat.{ℕ, suc, ◌+◌, ◌*◌, ◌-◌, ◌≤◌, ◌<◌}
 use native.Mathlib.Numerals.{add-one}
@@ -10,17 +11,11 @@ use lib.Dec.{eqb}
 use borrow.Author.Tests.{eq-eqb, ne_eqb}
 use Rattle.roommates.specs.declared.Stage.{Stage}
 use Rattle.roommates.specs.Lists.{Square, row, band_size, best_band}
-use Rattle.base.specs.Below.{lowest}
 use Rattle.roommates.specs.PhaseOne.{Work, work, step, lowest_waiting, run_out, phase_one}
 use Rattle.base.proofs.CountBelow.{count_most}
-use Rattle.base.proofs.Lowest.{lowest_at_most}
 
 pub square_small : (n : ℕ) → n ≤ 128 → n * n ≤ 16384
 square_small n h = mul-le-mul h h
-
--- the lowest is a joint, where there is one
-pub lowest_joint : (n : ℕ) (test : ℕ → Bool) {low : ℕ} → low ≡ lowest n test → (low ≡ n → ⊥) → low < n
-lowest_joint n test e h = let most = lowest_at_most n test in omega arith
 
 -- a step makes at most n proposals
 pub step_few : (n : ℕ) (s : Stage) (t : Square) (r g a : List ℕ) (m c p : ℕ) {t' : Square} {r' g' : List ℕ} {m' : ℕ}
@@ -31,18 +26,21 @@ step_few n s t r g a m c p {m' = m'} e =
     let few : band_size n (best_band n (row t p)) (row t p) ≤ n = count_most n _ in
     omega arith
 
-module _ (f n : ℕ) (w : Work) (i low : ℕ) (i<f : i < f) (is-low : low ≡ lowest_waiting n w) where
-  one_turn : run_out (f - i) n w ≡ cond (eqb low n) w (run_out (f - (i + 1)) n (step n w low))
+module _ (f n : ℕ) (w : Work) (i : ℕ) (i<f : i < f) where
+  one_turn : run_out (f - i) n w ≡ cond (eqb (lowest_waiting n w) n) w (run_out (f - (i + 1)) n (step n w (lowest_waiting n w)))
   unfolding run_out
   one_turn =
       let e : f - i ≡ suc (f - (i + 1)) = omega arith in
-      rw (e, is-low)
+      rw e
 
-  pub run_ends : low ≡ n → w ≡ run_out (f - i) n w
+  pub run_ends : lowest_waiting n w ≡ n → w ≡ run_out (f - i) n w
   run_ends h = rw (one_turn, eq-eqb _ _ h)
 
-  pub run_steps : {w' : Work} → (low ≡ n → ⊥) → w' ≡ step n w low → run_out (f - (i + 1)) n w' ≡ run_out (f - i) n w
-  run_steps more ew = rw (one_turn, ne_eqb _ _ more, ew)
+  pub run_steps : {low : ℕ} {w' : Work} → (low < n) × (low ≡ lowest_waiting n w) → w' ≡ step n w low
+      → run_out (f - (i + 1)) n w' ≡ run_out (f - i) n w
+  run_steps found ew =
+      let more : lowest_waiting n w ≢ n = λ z. omega (arith, found.0, found.1) in
+      rw (one_turn, ne_eqb _ _ more, ew, found.1)
 
 pub turns_over : (f n : ℕ) (w : Work) (i : ℕ) → f ≤ i → w ≡ run_out (f - i) n w
 unfolding run_out

@@ -13,7 +13,8 @@ use ruling::lowest_waiting;
 use sections::Joints;
 
 // What phase one keeps beside the lists: for each joint the band that it last proposed to (0 before its first step) and whether
-// it ever received a proposal (1 or 0, numbers as the definitions have them), and how many proposals were made.
+// it ever received a proposal (1 or 0), and how many proposals were made. Bytes, since bools would be no plainer: the definitions
+// have lists of 1 and 0, into which each contract would have to turn them.
 #[derive(Clone, Copy)]
 pub struct Progress {
     pub reach: [u8; 128],
@@ -103,10 +104,9 @@ pub fn run_on(n: Joints, bands: &mut [[u8; 128]; 128], made: &mut Progress)
     // as many turns as the definition has, and more than there are
     let turns = n.count * n.count + 1;
     for _turn in 0..turns {
-        let p = lowest_waiting(n, bands, &made.reach);
-        if p == n.count {
+        let Some(p) = lowest_waiting(n, bands, &made.reach) else {
             return;
-        }
+        };
         step(n, bands, made, p);
     }
 }

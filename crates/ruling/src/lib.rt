@@ -3,7 +3,7 @@
 #![tactic(auto)]
 
 ghost use Rattle.std.specs.Prelude.{◌≡◌, get_or};
-ghost use Rattle.base.specs.Below.{lowest};
+ghost use Rattle.base.specs.Below.{first_below};
 ghost use Rattle.roommates.specs.Lists.{row};
 ghost use Rattle.roommates.specs.PhaseOne.{list_waits};
 ghost use Rattle.roommates.specs.PhaseTwo.{longest_list};
@@ -11,13 +11,11 @@ ghost use Rattle.roommates.specs.PhaseTwo.{longest_list};
 use lists::rows::{list_length, list_waits};
 use sections::Joints;
 
-// the lowest joint that waits, n where nobody does: the number that `lowest` and a working's `next` have for no joint
-pub fn lowest_waiting(n: Joints, bands: &[[u8; 128]; 128], reach: &[u8; 128]) -> usize
-    ensures { result ≡ lowest n.count (λ p. list_waits n.count (get_or reach.now p 0) (row bands.now p)) }
+// the lowest joint that waits
+pub fn lowest_waiting(n: Joints, bands: &[[u8; 128]; 128], reach: &[u8; 128]) -> Option<usize>
+    ensures { result ≡ first_below n.count (λ p. list_waits n.count (get_or reach.now p 0) (row bands.now p)) }
 {
-    (0..n.count)
-        .find(|p| list_waits(n, reach[*p], &bands[*p]))
-        .unwrap_or(n.count)
+    (0..n.count).find(|p| list_waits(n, reach[*p], &bands[*p]))
 }
 
 // the joint with the longest list, and among equals the highest

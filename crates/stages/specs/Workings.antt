@@ -1,5 +1,5 @@
 -- A working as the code has it.
-use Rattle.std.specs.Prelude.{◌≡◌, Bool, ℕ}
+use Rattle.std.specs.Prelude.{◌≡◌, Bool, ℕ, ◌<◌, MatchOption}
 use Rattle.roommates.specs.Lists.{Square}
 use Rattle.roommates.specs.PhaseOne.{Work, work}
 use Rattle.roommates.specs.Moves.{begun, ruled}
@@ -8,9 +8,9 @@ use Rattle.stages.specs.declared.Working.{Working}
 abbrev pub work_of : Working → Work
 work_of g = work g.stage g.lists g.made.reach g.made.received g.aside g.made.proposals g.cuts
 
--- it knows the joint that the rule names
+-- it knows the joint that the rule names: none where the rule's number is that of no joint
 abbrev pub Ruled : Working → Type 0
-Ruled g = g.next ≡ ruled g.task.joints.count (work_of g)
+Ruled g = let n = g.task.joints.count in MatchOption g.next (ruled n (work_of g) ≡ n) (λ x. (x < n) × (x ≡ ruled n (work_of g)))
 
 -- g becomes h, which is the working w of the same task, and knows the rule's joint
 abbrev pub Becomes : Working → Work → Working → Type 0

@@ -2,7 +2,7 @@
 // what they require.
 #![tactic(auto)]
 
-ghost use Rattle.std.specs.Prelude.{◌≡◌, ◌≤◌};
+ghost use Rattle.std.specs.Prelude.{◌≡◌, ◌≤◌, None};
 ghost use Rattle.roommates.specs.declared.Stage.TheVariants.{Proposing};
 ghost use Rattle.roommates.specs.PhaseOne.{phase_one};
 ghost use Rattle.roommates.specs.Moves.{in_two, end_one, in_one};
@@ -17,19 +17,19 @@ use roommates::Stage;
 use ruling::{longest_list, lowest_waiting};
 use sections::Joints;
 
-// What is worked on: how many joints, and settle's working if `whole`, else shorten's. A flag, as C's call and the definitions have it.
+// What is worked on: how many joints, and settle's working if `whole`, else shorten's. A flag, as C's call has it.
 #[derive(Clone, Copy)]
 pub struct Task {
     pub joints: Joints,
     pub whole: bool,
 }
 
-// next: the joint that the rule names, n where it names nobody; aside: 1 for a joint set aside, else 0. Numbers as the definitions have them.
+// next: the joint that the rule names, if any; aside: 1 for a joint set aside, else 0, bytes as those that say who received.
 #[derive(Clone, Copy)]
 pub struct Working {
     pub task: Task,
     pub stage: Stage,
-    pub next: usize,
+    pub next: Option<usize>,
     pub lists: [[u8; 128]; 128],
     pub made: Progress,
     pub aside: [u8; 128],
@@ -37,19 +37,19 @@ pub struct Working {
 }
 
 impl Working {
-    // Another stage, in which the rule names this joint.
-    fn stand(&mut self, stage: Stage, next: usize)
+    // Another stage, in which the rule names this joint, or none.
+    fn stand(&mut self, stage: Stage, next: Option<usize>)
         ensures { self.new ≡ record self.old { stage = stage; next = next } }
     {
         self.stage = stage;
         self.next = next;
     }
 
-    // The end: the rule names no joint.
+    // An end: the rule names no joint.
     pub fn end(&mut self, stage: Stage)
-        ensures { self.new ≡ record self.old { stage = stage; next = self.old.task.joints.count } }
+        ensures { self.new ≡ record self.old { stage = stage; next = None } }
     {
-        self.stand(stage, self.task.joints.count);
+        self.stand(stage, None);
     }
 
     // Phase two runs while some list is longer than one: so while the longest is.
@@ -60,7 +60,7 @@ impl Working {
         let longest = longest_list(n, &self.lists);
         match list_length(n, &self.lists[longest]) {
             0 | 1 => self.end(Stage::Paired),
-            _ => self.stand(Stage::Cutting, longest),
+            _ => self.stand(Stage::Cutting, Some(longest)),
         }
     }
 
@@ -84,24 +84,21 @@ impl Working {
         requires { self.old.stage ≡ Proposing }
         ensures { Becomes self.old (in_one self.old.task.whole self.old.task.joints.count (work_of self.old)) self.new }
     {
-        let n = self.task.joints;
-        let low = lowest_waiting(n, &self.lists, &self.made.reach);
-        if low == n.count {
-            self.end_one();
-        } else {
-            self.stand(Stage::Proposing, low);
+        match lowest_waiting(self.task.joints, &self.lists, &self.made.reach) {
+            Some(low) => self.stand(Stage::Proposing, Some(low)),
+            None => self.end_one(),
         }
     }
 
     // A working of these lists begins.
-    pub fn begin(joints: Joints, lists: &[[u8; 128]; 128], whole: bool) -> Working
-        ensures begun { Begun whole joints.count lists.now result }
-        ensures lawful { SquarePromise joints.count lists.now → Lawful result }
+    pub fn begin(task: Task, lists: &[[u8; 128]; 128]) -> Working
+        ensures begun { Begun task.whole task.joints.count lists.now result }
+        ensures lawful { SquarePromise task.joints.count lists.now → Lawful result }
     {
         let mut begun = Working {
-            task: Task { joints, whole },
+            task,
             stage: Stage::Proposing,
-            next: joints.count,
+            next: None,
             lists: *lists,
             made: nothing_made(),
             aside: [0; 128],

@@ -1,28 +1,28 @@
 -- One turn of the records' loop and of the rule's: how they go on, and how they stop.
 use mathlib.Core.Path.{◌≡◌, refl, sym, ◌∙◌, ap}
-use mathlib.Core.Bool.{Bool, true, false}
-use mathlib.Core.Logic.{◌≢◌, inl, inr}
+use mathlib.Core.Bool.{Bool, false}
+use mathlib.Core.Logic.{◌≢◌}
 use mathlib.Core.List.{List, [], ◌∷◌}
 use Prim.Native.Nat.{ℕ, zero, suc, ◌+◌, ◌-◌, ◌/◌, ◌%◌, ◌≤◌, ◌<◌}
 use native.Mathlib.Omega.{arith}
 use native.Mathlib.Numerals.{add-one}
 use lib.ListN.{length, get_or, drop, length-drop}
 use lib.Seq.{drop-cons}
-use borrow.Author.Tests.{ne_eqb, eq-eqb}
-use Rattle.std.proofs.Common.{Option, Result, Ok, Err, IsOk, rules}
+use lib.Dec.{ltb}
+use borrow.Author.Tests.{ne_eqb, eq-eqb, le-ltb}
+use Rattle.std.proofs.Common.{Option, Some, None, Result, Ok, Err, IsOk, rules}
 use Rattle.std.specs.Simd.{first_chunks}
 use Rattle.base.proofs.Cases.{case}
-use Rattle.base.proofs.Tests.{never}
 use Rattle.refusals.specs.declared.Refusal.{Refusal}
 use Rattle.refusals.specs.Numbers.{fault_in}
 use Rattle.refusals.proofs.Numbers.{number_some}
-use Rattle.roommates.specs.declared.Stage.{Stage}
-use Rattle.roommates.specs.declared.Stage.TheVariants.{Proposing, Cutting, NoneOne, NoneTwo, Paired}
+use Rattle.roommates.specs.declared.Stage.TheVariants.{Proposing}
 use Rattle.roommates.specs.Lists.{Square}
 use Rattle.roommates.specs.PhaseOne.{Work, phase_one}
 use Rattle.roommates.specs.Moves.{in_one, Outcome, outcome, move, ruled, concluded, turns, carried_out}
 use Rattle.roommates.proofs.Sound.{promise_sound}
-use Rattle.roommates.proofs.Stages.{Over}
+use Rattle.roommates.proofs.Arrivals.{move_one, move_two, move_over}
+use Rattle.roommates.proofs.Stages.{Over, each_stage}
 use Rattle.roommates.proofs.WorkingsEnd.{rule_moves, stays}
 use Rattle.roommates.proofs.RuleInOne.{phase_one_at_once, at_once_arrives}
 use Rattle.records.specs.declared.Record.{Record}
@@ -35,20 +35,19 @@ use Rattle.stages.specs.Lawful.{Lawful}
 use Rattle.moves.specs.Moved.{Moved}
 use Rattle.moves.proofs.LawsLawful.{lawful_at}
 use Rattle.acting.specs.Marks.{marked_at}
-use Rattle.steering.specs.Ends.{is_over, records_in, ended, followed}
+use Rattle.steering.specs.Ends.{records_in, ended, followed}
 
-over_said : (s : Stage) → is_over s ≡ true → Over s
-over_said Proposing h = absurd (never _ h refl)
-over_said Cutting h = absurd (never _ h refl)
-over_said NoneOne h = inl refl
-over_said NoneTwo h = inr (inl refl)
-over_said Paired h = inr (inr refl)
+-- the rule names nobody at an end, and elsewhere a joint: the choice of none is refused
+over_unnamed : (n : ℕ) (w : Work) → Over w.stage → ruled n w ≡ n
+unfolding ruled
+over_unnamed n w over = case over (λ e. rw e refl) (λ over. case over (λ e. rw e refl) (λ e. rw e refl))
 
-said_over : (s : Stage) → is_over s ≡ false → Over s → ⊥
-said_over s h over =
-    case over
-    (λ e. never _ (ap is_over e) h)
-    (λ over. case over (λ e. never _ (ap is_over e) h) (λ e. never _ (ap is_over e) h))
+none_moves : (whole : Bool) (n : ℕ) (w : Work) (x : ℕ) → n ≤ x → 11 ≤ (move whole n w x).refusal
+none_moves whole n w x l =
+    let none : ltb x n ≡ false = le-ltb x n l in
+    case (each_stage w.stage)
+    (λ e. rw (move_one whole n w x e, none) (omega arith))
+    (λ past. case past (λ e. rw (move_two whole n w x e, none) (omega arith)) (λ over. rw (move_over whole n w x over) (omega arith)))
 
 rule_more : (whole : Bool) (n f : ℕ) (w : Work) → concluded (suc f) whole n w ≡ concluded f whole n (move whole n w (ruled n w)).work_is
 unfolding concluded
@@ -112,25 +111,37 @@ module _ {g : Working} (s : Lawful g) where
         ∙ sym (phase_one_at_once (promise_sound s.promise) s.arrived one)
 
   -- THE RULE
-  pub rule_ends : (f : ℕ) → is_over g.stage ≡ true → work_of g ≡ ended f g
-  rule_ends f over = sym (stays g.task.whole g.task.joints.count f (work_of g) (over_said g.stage over))
+  pub rule_ends : (f : ℕ) → g.next ≡ None → work_of g ≡ ended f g
+  rule_ends f nobody =
+      let unnamed : ruled g.task.joints.count (work_of g) ≡ g.task.joints.count = rw nobody at s.knows in
+      sym (
+      stays g.task.whole g.task.joints.count f (work_of g)
+      (case (rule_moves g.task.whole g.task.joints.count s.arrived)
+      (λ over. over)
+      (λ o.
+      let refused = none_moves g.task.whole g.task.joints.count (work_of g) (ruled g.task.joints.count (work_of g)) (omega (arith, unnamed)) in
+      absurd (omega (arith, refused, o.0))))
+      )
 
   pub rule_spent : (f i : ℕ) → f ≤ i → work_of g ≡ ended (f - i) g
   unfolding concluded
   rule_spent f i l = let z : f - i ≡ 0 = omega arith in rw z refl
 
-  module _ (h : Working) (r : Result Unit Refusal) (m : Moved g.next g h r) where
-    pub rule_unrefused : is_over g.stage ≡ false → fault_in r ≡ 0
-    rule_unrefused live =
+  module _ (x : ℕ) (names : g.next ≡ Some x) (h : Working) (r : Result Unit Refusal) (m : Moved x g h r) where
+    named : (x < g.task.joints.count) × (x ≡ ruled g.task.joints.count (work_of g))
+    named = rw names at s.knows
+
+    pub rule_unrefused : fault_in r ≡ 0
+    rule_unrefused =
         case (rule_moves g.task.whole g.task.joints.count s.arrived)
-        (λ over. absurd (said_over g.stage live over))
-        (λ o. ap (λ (o : Outcome). o.refusal) m.1.0 ∙ (ap (λ x. (move g.task.whole g.task.joints.count (work_of g) x).refusal) s.knows ∙ o.0))
+        (λ over. absurd (omega (arith, named.0, named.1, over_unnamed g.task.joints.count (work_of g) over)))
+        (λ o. ap (λ (o : Outcome). o.refusal) m.1.0 ∙ (ap (λ x. (move g.task.whole g.task.joints.count (work_of g) x).refusal) named.1 ∙ o.0))
 
     pub rule_on : (f i : ℕ) → i < f → ended (f - (i + 1)) h ≡ ended (f - i) g
     rule_on f i l =
         let k : f - i ≡ suc (f - (i + 1)) = omega arith in
         let w : work_of h ≡ (move g.task.whole g.task.joints.count (work_of g) (ruled g.task.joints.count (work_of g))).work_is
-        = ap (λ (o : Outcome). o.work_is) m.1.0 ∙ ap (λ x. (move g.task.whole g.task.joints.count (work_of g) x).work_is) s.knows in
+        = ap (λ (o : Outcome). o.work_is) m.1.0 ∙ ap (λ x. (move g.task.whole g.task.joints.count (work_of g) x).work_is) named.1 in
         ap (λ (k : Task). concluded (f - (i + 1)) k.whole k.joints.count (work_of h)) m.0
         ∙ ap (concluded (f - (i + 1)) g.task.whole g.task.joints.count) w
         ∙ sym (ap (λ j. ended j g) k ∙ rule_more g.task.whole g.task.joints.count (f - (i + 1)) (work_of g))

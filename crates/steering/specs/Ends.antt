@@ -1,21 +1,11 @@
--- What the loops ask of a stage, and go by.
-use Rattle.std.specs.Prelude.{Bool, true, false, List, [], ◌∷◌, ℕ, get_or}
-use Rattle.roommates.specs.declared.Stage.{Stage}
-use Rattle.roommates.specs.declared.Stage.TheVariants.{Proposing, Cutting, NoneOne, NoneTwo, Paired}
+-- What the loops go by.
+use Rattle.std.specs.Prelude.{List, [], ◌∷◌, ℕ, get_or}
 use Rattle.records.specs.declared.Record.{Record}
 use Rattle.roommates.specs.PhaseOne.{Work}
 use Rattle.roommates.specs.Moves.{Outcome, concluded}
 use Rattle.records.specs.Records.{record_of, Marked, follows}
 use Rattle.stages.specs.declared.Working.{Working}
 use Rattle.stages.specs.Workings.{work_of}
-
--- has a working ended?
-abbrev pub is_over : Stage → Bool
-is_over Proposing = false
-is_over Cutting = false
-is_over NoneOne = true
-is_over NoneTwo = true
-is_over Paired = true
 
 -- the records of pairs of bytes
 unfoldable pub records_in : List (List ℕ) → List Record

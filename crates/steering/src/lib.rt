@@ -8,7 +8,7 @@ ghost use Rattle.roommates.specs.Moves.{outcome, turns};
 ghost use Rattle.records.specs.Records.{marked, unmarked, worked_by};
 ghost use Rattle.stages.specs.Workings.{work_of, Begun};
 ghost use Rattle.stages.specs.Lawful.{Lawful};
-ghost use Rattle.steering.specs.Ends.{is_over, ended, followed};
+ghost use Rattle.steering.specs.Ends.{ended, followed};
 
 use acting::act;
 use moves::make_move;
@@ -16,12 +16,6 @@ use records::Record;
 use refusals::Refusal;
 use roommates::Stage;
 use stages::Working;
-
-fn is_over(stage: Stage) -> bool
-    ensures { result ≡ is_over stage }
-{
-    matches!(stage, Stage::NoneOne | Stage::NoneTwo | Stage::Paired)
-}
 
 // The records, up to the first that is refused. Where there is none nothing is cleared for the marks.
 fn follow(working: &mut Working, records: &[[u8; 2]]) -> Result<(), Refusal>
@@ -52,10 +46,10 @@ fn go_on(working: &mut Working)
 {
     let n = working.task.joints.count;
     for _ in 0..n * n + n * n + 1 {
-        if is_over(working.stage) {
+        let Some(x) = working.next else {
             return;
-        }
-        make_move(working, working.next).unwrap();
+        };
+        make_move(working, x).unwrap();
     }
 }
 
