@@ -99,13 +99,13 @@ import_refused s out r e =
     refused s out r (fault_stops (met_fault (hierarchy s)) _ (λ z. omega arith) ∙ e)
 
 -- A HIERARCHY READ
-module _ {s rest : List ℕ} {joints : List NamedJoint} (read : WasRead s rest joints (hierarchy s)) where
+module _ {s rest : List ℕ} {joints : List NamedJoint} (good : names_fault (kept_names joints) ≡ 0) (read : WasRead s rest joints (hierarchy s)) where
   -- its names fit labels
   pub read_writable : Writable joints
   read_writable =
-      let good = (names_rule (kept_names joints)).0 read.good in
+      let names = (names_rule (kept_names joints)).0 good in
       let n = names_length joints in
-      record { few = omega (arith, good.few); short = λ i l. (good.each i (omega arith)).short }
+      record { few = omega (arith, names.few); short = λ i l. (names.each i (omega arith)).short }
 
   read_sheet : sheet_in s ≡ sheet_for (gathered joints)
   unfolding joints_met
@@ -118,7 +118,7 @@ module _ {s rest : List ℕ} {joints : List NamedJoint} (read : WasRead s rest j
   read_fault : (out : List ℕ) → import_fault s (length out) ≡ when (ltb (length out) (length (sheet_in s))) 9
   unfolding met_fault
   read_fault out =
-      let none : met_fault (hierarchy s) ≡ 0 = ap met_fault read.says ∙ read.good in
+      let none : met_fault (hierarchy s) ≡ 0 = ap met_fault read.says ∙ good in
       fault_passes _ _ none ∙ last_fault _
 
   pub import_short : (out : List ℕ) (size : ℕ) → size ≡ written_size (length joints) → length out < size → Says s out (Err OutTooShort) out

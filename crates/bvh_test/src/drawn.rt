@@ -1,11 +1,8 @@
 // Texts by their recipes: hierarchies from the generator, word by word, whole or with a word changed.
 ghost use Rattle.std.specs.Prelude.{◌<◌};
 
-use crate::spelling::{
-    BRACE, CHANNELS, CLOSE, END, HIERARCHY, JOINT, MOTION, NOTHING, OFFSET, ROOT, SITE, Text,
-    code_of, gap_of, put_code,
-};
-use samples::next;
+use crate::spelling::{Text, WORDS, Word, gap_of, name_of, put_word, word_of};
+use samples::{next, put};
 
 // How many words the counts of channels count, which are 0, 1, 3, 003, 6 and 00..01.
 const CHANNEL_WORDS: [usize; 6] = [0, 1, 3, 3, 6, 1];
@@ -58,8 +55,8 @@ impl Mode {
 pub enum Change {
     Nothing,
     LeaveOut(usize),
-    Replace(usize, u8),
-    Insert(usize, u8),
+    Replace(usize, Word),
+    Insert(usize, Word),
     Cut(usize),
 }
 
@@ -73,11 +70,11 @@ impl Change {
     }
 
     // What stands for word k.
-    fn changed(self, k: usize, code: u8) -> u8 {
+    fn changed(self, k: usize, word: Word) -> Word {
         match self {
-            Change::LeaveOut(place) if place == k => NOTHING,
+            Change::LeaveOut(place) if place == k => Word::Nothing,
             Change::Replace(place, other) | Change::Insert(place, other) if place == k => other,
-            _ => code,
+            _ => word,
         }
     }
 }
@@ -104,15 +101,15 @@ enum Piece {
 }
 
 impl Piece {
-    fn first_word(self) -> u8 {
+    fn first_word(self) -> Word {
         match self {
-            Piece::Head => HIERARCHY,
-            Piece::Root => ROOT,
-            Piece::Joint => JOINT,
-            Piece::EndSite => END,
-            Piece::Closing => CLOSE,
-            Piece::Last => MOTION,
-            Piece::Over => NOTHING,
+            Piece::Head => Word::Spelt(b"HIERARCHY"),
+            Piece::Root => Word::Spelt(b"ROOT"),
+            Piece::Joint => Word::Spelt(b"JOINT"),
+            Piece::EndSite => Word::Spelt(b"End"),
+            Piece::Closing => Word::Spelt(b"}"),
+            Piece::Last => Word::Spelt(b"MOTION"),
+            Piece::Over => Word::Nothing,
         }
     }
 }
@@ -130,7 +127,7 @@ struct Walk {
     depth: usize,
     names: usize,
     gap: u32,
-    code: u8,
+    last: Word,
 }
 
 impl Walk {
@@ -173,31 +170,31 @@ impl Walk {
     }
 
     // A name: a new one, but for some: a keyword, a special one, any of the others. These are rarer where there are many names.
-    fn name(&self, x: u32, y: u32) -> u8 {
+    fn name(&self, x: u32, y: u32) -> Word {
         let k = if self.mode == Mode::Small {
             y % 64
         } else {
             y % 1024
         };
         match k {
-            0 => (x % 10) as u8,
-            1 => (27 + x % 9) as u8,
-            2 => (50 + x % 200) as u8,
-            _ => (50 + self.names % 200) as u8,
+            0 => Word::Spelt(WORDS[(x % 10) as usize]),
+            1 => Word::Spelt(WORDS[27 + (x % 9) as usize]),
+            2 => name_of(x as usize),
+            _ => name_of(self.names),
         }
     }
 
     // The word that comes next.
-    fn next_word(&self, x: u32, y: u32) -> u8 {
+    fn next_word(&self, x: u32, y: u32) -> Word {
         match (self.word, self.piece == Piece::EndSite) {
             (0, _) => self.piece.first_word(),
-            (1, true) => SITE,
+            (1, true) => Word::Spelt(b"Site"),
             (1, false) => self.name(x / 64, y),
-            (2, _) => BRACE,
-            (3, _) => OFFSET,
-            (7, true) => CLOSE,
-            (7, false) => CHANNELS,
-            (8, _) => (10 + y % 6) as u8,
+            (2, _) => Word::Spelt(b"{"),
+            (3, _) => Word::Spelt(b"OFFSET"),
+            (7, true) => Word::Spelt(b"}"),
+            (7, false) => Word::Spelt(b"CHANNELS"),
+            (8, _) => Word::Spelt(WORDS[10 + (y % 6) as usize]),
             _ => any_word(y),
         }
     }
@@ -211,7 +208,7 @@ impl Walk {
         }
         self.at = y;
         self.gap = x / 8;
-        self.code = self.next_word(x, y);
+        self.last = self.next_word(x, y);
         if self.word == 8 {
             self.end = 9 + CHANNEL_WORDS[(y % 6) as usize] % 7;
         }
@@ -220,11 +217,11 @@ impl Walk {
 }
 
 // A number, or any word.
-fn any_word(y: u32) -> u8 {
+fn any_word(y: u32) -> Word {
     if y % 4 == 0 {
-        code_of(y / 4)
+        word_of(y / 4)
     } else {
-        19 + (y / 4 % 3) as u8
+        Word::Spelt(WORDS[19 + (y / 4 % 3) as usize])
     }
 }
 
@@ -240,17 +237,17 @@ pub fn put_text(text: &mut Text, recipe: Recipe) {
         depth: 0,
         names: 0,
         gap: 0,
-        code: 0,
+        last: Word::Nothing,
     };
     for k in 0..3000 {
         if !recipe.change.is_extra(k) {
             walk.step();
         }
         if walk.piece == Piece::Over {
-            put_code(text, gap_of(walk.gap, true));
+            put(text, gap_of(walk.gap, true));
             return;
         }
-        put_code(text, gap_of(walk.gap, k == 0));
-        put_code(text, recipe.change.changed(k, walk.code));
+        put(text, gap_of(walk.gap, k == 0));
+        put_word(text, recipe.change.changed(k, walk.last));
     }
 }

@@ -15,7 +15,7 @@ use counts::{Counts, Part};
 use drawn::{Change, Mode, Recipe, put_text};
 use machine::Machine;
 use samples::{FILL, filled, next};
-use spelling::{Text, code_of};
+use spelling::{Text, word_of};
 use std::io;
 
 // The seed of the one text, which has 79 words and 545 bytes: two ROOT blocks that nest, End Sites, and MOTION with words. Some of its words are
@@ -81,10 +81,10 @@ fn try_text(
 // The change k of the one text: at each word each of 40 words in its place, each before it, and the word left out.
 fn change_of(k: u32) -> Change {
     let place = (k / 81) as usize;
-    let code = code_of(k % 81);
+    let word = word_of(k % 81);
     match k % 81 / 40 {
-        0 => Change::Replace(place, code),
-        1 => Change::Insert(place, code),
+        0 => Change::Replace(place, word),
+        1 => Change::Insert(place, word),
         _ => Change::LeaveOut(place),
     }
 }
@@ -96,13 +96,13 @@ fn drawn_recipe(round: u32) -> Recipe {
     let seed = next(y);
     let mode = Mode::of(round);
     let goal = mode.goal(seed);
-    let word = y as usize % (12 * goal + 1);
-    let code = code_of(x / 8);
+    let place = y as usize % (12 * goal + 1);
+    let word = word_of(x / 8);
     let change = match x % 8 % 5 {
         0 => Change::Nothing,
-        1 => Change::LeaveOut(word),
-        2 => Change::Replace(word, code),
-        3 => Change::Insert(word, code),
+        1 => Change::LeaveOut(place),
+        2 => Change::Replace(place, word),
+        3 => Change::Insert(place, word),
         _ => Change::Cut(y as usize % (64 * goal + 1)),
     };
     Recipe { seed, mode, change }

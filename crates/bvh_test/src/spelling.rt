@@ -1,32 +1,18 @@
-// Words by their codes: the keywords are 0 to 9, other words 10 to 35, gaps 36 to 40, nothing 41, and the names from 50 on: n and two letters.
+// The words of a text, and the gaps between them.
 use arrayvec::ArrayVec;
 use samples::put;
 
-pub const HIERARCHY: u8 = 0;
+// A word: none, one that is written out, or a name by its number, n and two letters.
+#[derive(Clone, Copy)]
+pub enum Word {
+    Nothing,
+    Spelt(&'static [u8]),
+    Name(u8),
+}
 
-pub const ROOT: u8 = 1;
-
-pub const JOINT: u8 = 2;
-
-pub const BRACE: u8 = 3;
-
-pub const CLOSE: u8 = 4;
-
-pub const OFFSET: u8 = 5;
-
-pub const CHANNELS: u8 = 6;
-
-pub const END: u8 = 7;
-
-pub const SITE: u8 = 8;
-
-pub const MOTION: u8 = 9;
-
-const SPACE: u8 = 36;
-
-pub const NOTHING: u8 = 41;
-
-const WORDS: [&[u8]; 42] = [
+// Keywords, 10 of them; 6 counts, and 3 that are none; 3 numbers or words; keywords misspelt; and from place 27 on 9 that stand for names. A table,
+// since a drawn number is a place in it.
+pub const WORDS: [&[u8]; 36] = [
     b"HIERARCHY",
     b"ROOT",
     b"JOINT",
@@ -63,38 +49,41 @@ const WORDS: [&[u8]; 42] = [
     b"\xc8n",
     b"n\x0bn",
     b"n\x01",
-    b"\x20",
-    b"\t",
-    b"\n",
-    b"\r\n",
-    b" \t\r \n\n",
-    b"",
 ];
 
 // No text here fills it.
 pub type Text = ArrayVec<u8, 16384>;
 
 // A word at the end of the text.
-pub fn put_code(text: &mut Text, code: u8) {
-    match WORDS.get(usize::from(code)) {
-        Some(word) => put(text, word),
-        None => put(text, &[b'n', 65 + code / 16, 65 + code % 16]),
+pub fn put_word(text: &mut Text, word: Word) {
+    match word {
+        Word::Nothing => {}
+        Word::Spelt(bytes) => put(text, bytes),
+        Word::Name(k) => put(text, &[b'n', 65 + k / 16, 65 + k % 16]),
     }
 }
 
 // The gap before a word, by a number: half of the gaps are a space, and nothing at the text's ends.
-pub fn gap_of(x: u32, is_end: bool) -> u8 {
+pub fn gap_of(x: u32, is_end: bool) -> &'static [u8] {
     match x % 8 {
-        4 => 37,
-        5 => 38,
-        6 => 39,
-        7 => 40,
-        _ => if is_end { NOTHING } else { SPACE },
+        4 => b"\t",
+        5 => b"\n",
+        6 => b"\r\n",
+        7 => b" \t\r \n\n",
+        _ => if is_end { b"" } else { b" " },
     }
 }
 
-// One of 40 codes: the keywords, the other words, and four names.
-pub fn code_of(k: u32) -> u8 {
-    let c = (k % 40) as u8;
-    if c < SPACE { c } else { c + 14 }
+// One of 200 names.
+pub fn name_of(k: usize) -> Word {
+    Word::Name((50 + k % 200) as u8)
+}
+
+// One of 40 words: those of the table, and four names.
+pub fn word_of(k: u32) -> Word {
+    let place = (k % 40) as usize;
+    match WORDS.get(place) {
+        Some(bytes) => Word::Spelt(bytes),
+        None => name_of(place % 36),
+    }
 }

@@ -12,7 +12,7 @@ use Rattle.words.specs.Words.{Words, words}
 use Rattle.words.specs.Met.{Follows, Reaches}
 use Rattle.sections.specs.Labels.{same_bytes}
 use Rattle.words.proofs.MetLaws.{pointwise_same, reaches_from}
-use Rattle.headings.specs.declared.Child.TheVariants.{Close, End, Joint, Other}
+use Rattle.headings.specs.declared.Child.TheVariants.{Close, End, Joint}
 use Rattle.headings.specs.Keywords.{end_word, joint_word, close_word}
 use Rattle.headings.specs.Headings.{child_of}
 
@@ -32,6 +32,6 @@ pub test_is : (w : List ℕ) {key : List ℕ} {met : Bool} (word : List ℕ) →
 test_is w {key} word e k = e ∙ pointwise_same w key ∙ rw k refl
 
 pub child_is : (w : List ℕ) (closes ends nests : Bool) → closes ≡ same_bytes w close_word → ends ≡ same_bytes w end_word
-    → nests ≡ same_bytes w joint_word → cond closes Close (cond ends End (cond nests Joint Other)) ≡ child_of w
+    → nests ≡ same_bytes w joint_word → cond closes (found.Some Close) (cond ends (found.Some End) (cond nests (found.Some Joint) found.None)) ≡ child_of w
 unfolding child_of
 child_is w closes ends nests c e n = rw (c, e, n)

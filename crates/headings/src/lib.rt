@@ -8,13 +8,12 @@ ghost use Rattle.headings.specs.Headings.{opening, heading, site, child_of};
 
 use words::{any_words, counted_words, keyword};
 
-// What a word in a block begins: the block's end, an End Site, a JOINT, or nothing that may stand there.
+// What a word may begin in a block: the block's end, an End Site, a JOINT.
 #[derive(Clone, Copy)]
 pub enum Child {
     Close,
     End,
     Joint,
-    Other,
 }
 
 // Meets an opening brace, OFFSET and three words.
@@ -44,18 +43,18 @@ pub fn site(text: &[u8]) -> Option<&[u8]>
     keyword(close, b"}")
 }
 
-// What a word begins in a block.
-pub fn child_of(word: &[u8]) -> Child
+// What a word begins in a block, if it may stand there.
+pub fn child_of(word: &[u8]) -> Option<Child>
     ensures { result ≡ child_of word.now }
 {
     // no match: on byte strings it tests byte by byte, and its proof has a case for each byte
     if word == b"}".as_slice() {
-        Child::Close
+        Some(Child::Close)
     } else if word == b"End".as_slice() {
-        Child::End
+        Some(Child::End)
     } else if word == b"JOINT".as_slice() {
-        Child::Joint
+        Some(Child::Joint)
     } else {
-        Child::Other
+        None
     }
 }

@@ -1,5 +1,5 @@
 -- A block in the steps of its reader: one law for each way out.
-use mathlib.Core.Path.{◌≡◌, refl, ap, ◌∙◌}
+use mathlib.Core.Path.{◌≡◌, refl, ◌∙◌}
 use mathlib.Core.List.{List, [], ◌∷◌, ◌++◌, map-append}
 use mathlib.Core.Option.{none, some}
 use Prim.Native.Nat.{ℕ, ◌≤◌}
@@ -29,7 +29,7 @@ broken_fault js h = fault_passes _ _ h ∙ last_fault 19
 -- an answer in what follows is one in the text
 pub from_behind : {s t : List ℕ} (r : Result (Bor (List ℕ)) Refusal) (joints : List NamedJoint) (met : Met) → Follows s t → Answers t r joints met
     → Answers s r joints met
-from_behind (Ok rest) joints met h a = record { good = a.good; follows = follows_on h a.follows; says = a.says }
+from_behind (Ok rest) joints met h a = record { follows = follows_on h a.follows; says = a.says }
 from_behind (Err refusal) joints met h a = a
 
 module _ (joints : List NamedJoint) (good : names_fault (kept_names joints) ≡ 0) where
@@ -68,9 +68,6 @@ module _ (joints : List NamedJoint) (good : names_fault (kept_names joints) ≡ 
     module _ {added : List NamedJoint} (adds : added ≡ joints ++ (joint ∷ [])) where
       gathered_more : gathered added ≡ more
       gathered_more = rw (adds, map-append (λ j. j.name.now) joints (joint ∷ []), map-append (λ j. j.parent) joints (joint ∷ [])) refl
-
-      pub added_good : name_fault (kept_names joints) joint.name.now ≡ 0 → names_fault (kept_names added) ≡ 0
-      added_good fit = ap (λ (ks : Joints). names_fault ks.names) gathered_more ∙ more_fault ∙ fit
 
       -- what its children's reader answers is its answer
       pub block_answered : (deeper own : ℕ) → own ≡ length joints → {inside : List ℕ} → (heading (words rest) ≡ some (words inside)) × Follows rest inside

@@ -6,6 +6,8 @@ use mathlib.Core.Option.{Option, none, some}
 use Prim.Native.Nat.{ℕ, zero, suc, ◌≤◌}
 use native.Mathlib.Omega.{arith}
 use lib.ListN.{length, get_or, drop}
+use Rattle.std.specs.Prelude.{Some, None}
+use Rattle.std.specs.Prelude as found
 use Rattle.base.proofs.Faults.{fault_stops}
 use Rattle.parents.specs.Parents.{root}
 use Rattle.words.specs.Words.{Words}
@@ -13,7 +15,7 @@ use Rattle.words.specs.Met.{keyword}
 use Rattle.names.specs.Names.{names_fault}
 use Rattle.names.proofs.NameLaws.{names_stay}
 use Rattle.headings.specs.declared.Child.{Child}
-use Rattle.headings.specs.declared.Child.TheVariants.{Close, End, Joint, Other}
+use Rattle.headings.specs.declared.Child.TheVariants.{Close, End, Joint}
 use Rattle.headings.specs.Keywords.{root_word}
 use Rattle.headings.specs.Headings.{heading, site, child_of}
 use Rattle.hierarchy.specs.Hierarchy.{Joints, named, Met, left, broken, behind, and_then, block, child, children, ends, root_block, roots, joints_met, met_fault}
@@ -53,14 +55,14 @@ block_grows inside h above [] js = same_grows js
 block_grows inside h above (name ∷ ws) js =
     named_grows js name above _ (behind_grows (heading ws) (named js name above) _ (λ on. h (length js.names) on (named js name above)))
 
-child_grows : (c : Child) (inner : ℕ → ℕ → Words → Joints → Met) → ((d own : ℕ) (ws : Words) (js : Joints) → Grows js (inner d own ws js))
+child_grows : (c : found.Option Child) (inner : ℕ → ℕ → Words → Joints → Met) → ((d own : ℕ) (ws : Words) (js : Joints) → Grows js (inner d own ws js))
     → (deeper own : ℕ) (ws : Words) (js : Joints) → Grows js (child c inner deeper own ws js)
 unfolding child
-child_grows Close inner h deeper own ws js = left_grows ws js
-child_grows End inner h deeper own ws js = behind_grows (site ws) js _ (λ on. h deeper own on js)
-child_grows Joint inner h zero own ws js = same_grows js
-child_grows Joint inner h (suc d) own ws js = then_grows js _ _ (block_grows (inner d) (h d) own ws js) (h (suc d) own)
-child_grows Other inner h deeper own ws js = same_grows js
+child_grows (Some Close) inner h deeper own ws js = left_grows ws js
+child_grows (Some End) inner h deeper own ws js = behind_grows (site ws) js _ (λ on. h deeper own on js)
+child_grows (Some Joint) inner h zero own ws js = same_grows js
+child_grows (Some Joint) inner h (suc d) own ws js = then_grows js _ _ (block_grows (inner d) (h d) own ws js) (h (suc d) own)
+child_grows None inner h deeper own ws js = same_grows js
 
 pub children_grows : (f deeper own : ℕ) (ws : Words) (js : Joints) → Grows js (children f deeper own ws js)
 unfolding children

@@ -5,6 +5,8 @@ use mathlib.Core.List.{List, [], ◌∷◌, ◌++◌, append_assoc}
 use mathlib.Core.Option.{Option, none, some}
 use Prim.Native.Nat.{ℕ, zero, suc}
 use lib.ListN.{length}
+use Rattle.std.specs.Prelude.{Some, None}
+use Rattle.std.specs.Prelude as found
 use Rattle.base.proofs.Cases.{case, both_ways, unlike}
 use Rattle.parents.specs.Parents.{root}
 use Rattle.sections.specs.Labels.{same_bytes}
@@ -12,7 +14,7 @@ use Rattle.sections.proofs.LabelLaws.{same_equal}
 use Rattle.words.specs.Words.{Words}
 use Rattle.words.specs.Met.{keyword}
 use Rattle.headings.specs.declared.Child.{Child}
-use Rattle.headings.specs.declared.Child.TheVariants.{Close, End, Joint, Other}
+use Rattle.headings.specs.declared.Child.TheVariants.{Close, End, Joint}
 use Rattle.headings.specs.Keywords.{root_word, joint_word, end_word, close_word}
 use Rattle.headings.specs.Headings.{heading, site, child_of}
 use Rattle.hierarchy.specs.Hierarchy.{Joints, Met, left, broken, named, behind, and_then, block, child, children, ends, root_block, roots}
@@ -82,11 +84,11 @@ read_block f reads d above (name ∷ ws) js ws' js' h =
     record { name = name; offset = o; channels = c; inside = r.inside; nests = r.nests; spelt = cc; joints = r.joints }
 
 -- A CHILD's first word
-abbrev Begins : Child → List ℕ → Type 0
-Begins Close w = w ≡ close_word
-Begins End w = w ≡ end_word
-Begins Joint w = w ≡ joint_word
-Begins Other w = record {}
+abbrev Begins : found.Option Child → List ℕ → Type 0
+Begins (Some Close) w = w ≡ close_word
+Begins (Some End) w = w ≡ end_word
+Begins (Some Joint) w = w ≡ joint_word
+Begins None w = record {}
 
 begins : (w : List ℕ) → Begins (child_of w) w
 unfolding child_of
@@ -128,18 +130,18 @@ joint_first d own w ws js on met ws' js' e b r =
           ∙ adding_joint js b.name own b.offset b.channels b.inside r.inside;
     }
 
-read_child : (f : ℕ) → ReadsIn f → (k : Child) (d own : ℕ) (w : List ℕ) (ws : Words) (js : Joints) (ws' : Words) (js' : Joints) → Begins k w
+read_child : (f : ℕ) → ReadsIn f → (k : found.Option Child) (d own : ℕ) (w : List ℕ) (ws : Words) (js : Joints) (ws' : Words) (js' : Joints) → Begins k w
     → child k (children f) d own ws js ≡ left ws' js' → ReadInside d own (w ∷ ws) js ws' js'
 unfolding child
-read_child f reads Close d own w ws js ws' js' e h = close_ends d own w ws js ws' js' e h
-read_child f reads End d own w ws js ws' js' e h =
+read_child f reads (Some Close) d own w ws js ws' js' e h = close_ends d own w ws js ws' js' e h
+read_child f reads (Some End) d own w ws js ws' js' e h =
     let (on, (met, next)) = left_behind (site ws) js _ ws' js' h in
     site_first d own w ws on js ws' js' e met (reads d own on js ws' js' next)
-read_child f reads Joint zero own w ws js ws' js' e h = absurd (unlike (cc))
-read_child f reads Joint (suc d) own w ws js ws' js' e h =
+read_child f reads (Some Joint) zero own w ws js ws' js' e h = absurd (unlike (cc))
+read_child f reads (Some Joint) (suc d) own w ws js ws' js' e h =
     let (on, (met, (first, next))) = left_then (block (children f d) own ws js) _ ws' js' h in
     joint_first d own w ws js on met ws' js' e (read_block f reads d own ws js on met first) (reads (suc d) own on met ws' js' next)
-read_child f reads Other d own w ws js ws' js' e h = absurd (unlike (cc))
+read_child f reads None d own w ws js ws' js' e h = absurd (unlike (cc))
 
 read_inside : (f : ℕ) → ReadsIn f
 unfolding children child child_of same_bytes

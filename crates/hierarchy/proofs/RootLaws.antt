@@ -67,13 +67,13 @@ module _ {s : List ℕ} {js₀ : Joints} {rest : List ℕ} {joints : List NamedJ
     unfolding roots and_then
     roots_ended e =
         answered going (Ok behind) joints₁
-        (λ f l. let read = a (suc f) (omega arith) in record { good = read.good; follows = read.follows; says = rw (read.says, e) refl })
+        (λ f l. let read = a (suc f) (omega arith) in record { follows = read.follows; says = rw (read.says, e) refl })
 
-    pub roots_on : length behind.now < length rest → ends (words behind.now) ≡ false → Going roots s js₀ behind.now joints₁
+    pub roots_on : names_fault (kept_names joints₁) ≡ 0 → length behind.now < length rest → ends (words behind.now) ≡ false → Going roots s js₀ behind.now joints₁
     unfolding roots and_then
-    roots_on less e =
+    roots_on good₁ less e =
         let read = a (suc (length rest)) (omega arith) in
-        goes_on going read.good read.follows less (λ f l. rw ((a (suc f) (omega arith)).says, e) refl)
+        goes_on going good₁ read.follows less (λ f l. rw ((a (suc f) (omega arith)).says, e) refl)
 
 -- THE WHOLE
 pub whole_broken : (s : List ℕ) → keyword hierarchy_word (words s) ≡ none → met_fault (hierarchy s) ≡ 19

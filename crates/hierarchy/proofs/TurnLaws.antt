@@ -6,7 +6,8 @@ use Prim.Native.Nat.{ℕ, zero, suc, ◌-◌, ◌<◌}
 use native.Mathlib.Omega.{arith}
 use lib.ListN.{length}
 use denote.Ref.{Bor}
-use Rattle.std.specs.Prelude.{Ok, Err}
+use Rattle.std.specs.Prelude.{Ok, Err, Some, None}
+use Rattle.std.specs.Prelude as found
 use Rattle.refusals.specs.declared.Refusal.{Refusal}
 use Rattle.refusals.specs.declared.Refusal.TheVariants.{BadHierarchy}
 use Rattle.refusals.proofs.Numbers.{number_some}
@@ -14,8 +15,10 @@ use Rattle.words.specs.Words.{Words, words}
 use Rattle.words.specs.Met.{NextWord, Follows}
 use Rattle.words.proofs.MetLaws.{next_follows, next_shorter, follows_on, follows_length}
 use Rattle.names.specs.declared.joints.NamedJoint.{NamedJoint}
+use Rattle.names.specs.Names.{names_fault}
+use Rattle.names.specs.Kept.{kept_names}
 use Rattle.headings.specs.declared.Child.{Child}
-use Rattle.headings.specs.declared.Child.TheVariants.{Close, End, Joint, Other}
+use Rattle.headings.specs.declared.Child.TheVariants.{Close, End, Joint}
 use Rattle.headings.specs.Headings.{site, child_of}
 use Rattle.sections.specs.Labels.{same_bytes}
 use Rattle.hierarchy.specs.Hierarchy.{Joints, Met, broken, behind, and_then, block, child, children}
@@ -26,7 +29,7 @@ use Rattle.hierarchy.proofs.Going.{Going, answered, goes_on}
 
 -- a JOINT where blocks may nest deeper
 nested : (inner : ℕ → ℕ → Words → Joints → Met) (d own : ℕ) (ws : Words) (js : Joints) → (d ≡ 0 → ⊥)
-    → child Joint inner d own ws js ≡ and_then (block (inner (d - 1)) own ws js) (inner d own)
+    → child (Some Joint) inner d own ws js ≡ and_then (block (inner (d - 1)) own ws js) (inner d own)
 unfolding child
 nested inner zero own ws js h = absurd (h refl)
 nested inner (suc d) own ws js h = let e : suc d - 1 ≡ d = omega arith in rw e refl
@@ -47,22 +50,22 @@ module _ (deeper own : ℕ) {s : List ℕ} {js₀ : Joints} {rest : List ℕ} {j
   turn_ended e = turn_broken (λ f. rw e refl)
 
   module _ {word later : List ℕ} (next : NextWord rest word later) where
-    turn_is : {c : Child} → c ≡ child_of word → (f : ℕ) → children (suc f) deeper own (words rest) js ≡ child c (children f) deeper own (words later) js
+    turn_is : {c : found.Option Child} → c ≡ child_of word → (f : ℕ) → children (suc f) deeper own (words rest) js ≡ child c (children f) deeper own (words later) js
     unfolding children
     turn_is e f = rw (next.ahead, ← e) refl
 
-    pub turn_other : Other ≡ child_of word → Answered s (Err BadHierarchy) joints (λ f. children f deeper own (words s) js₀)
+    pub turn_other : None ≡ child_of word → Answered s (Err BadHierarchy) joints (λ f. children f deeper own (words s) js₀)
     unfolding child
     turn_other e = turn_broken (turn_is e)
 
     -- THE BLOCK'S END
-    pub turn_close : (behind : Bor (List ℕ)) → behind.now ≡ later → Close ≡ child_of word → Answered s (Ok behind) joints (λ f. children f deeper own (words s) js₀)
+    pub turn_close : (behind : Bor (List ℕ)) → behind.now ≡ later → Some Close ≡ child_of word → Answered s (Ok behind) joints (λ f. children f deeper own (words s) js₀)
     unfolding child
     turn_close behind b e =
-        answered going (Ok behind) joints (λ f l. record { good = going.good; follows = rw b (next_follows next); says = rw b (turn_is e f) })
+        answered going (Ok behind) joints (λ f l. record { follows = rw b (next_follows next); says = rw b (turn_is e f) })
 
     -- AN END SITE
-    module _ (e : End ≡ child_of word) where
+    module _ (e : Some End ≡ child_of word) where
       pub turn_site_broken : site (words later) ≡ none → Answered s (Err BadHierarchy) joints (λ f. children f deeper own (words s) js₀)
       unfolding child behind
       turn_site_broken h = turn_broken (λ f. turn_is e f ∙ rw h refl)
@@ -76,7 +79,7 @@ module _ (deeper own : ℕ) {s : List ℕ} {js₀ : Joints} {rest : List ℕ} {j
           goes_on going going.good (follows_on (next_follows next) h.1) (omega arith) (λ f l. turn_is e f ∙ rw h.0 refl)
 
     -- A JOINT
-    module _ (e : Joint ≡ child_of word) where
+    module _ (e : Some Joint ≡ child_of word) where
       pub turn_too_deep : deeper ≡ 0 → Answered s (Err BadHierarchy) joints (λ f. children f deeper own (words s) js₀)
       unfolding child
       turn_too_deep h = turn_broken (λ f. turn_is e f ∙ rw h refl)
@@ -101,10 +104,10 @@ module _ (deeper own : ℕ) {s : List ℕ} {js₀ : Joints} {rest : List ℕ} {j
               let shorter = follows_length (a (length rest) (omega arith)).follows in
               omega arith
 
-          pub turn_joint : Going (λ f. children f deeper own) s js₀ behind.now joints₁
+          pub turn_joint : names_fault (kept_names joints₁) ≡ 0 → Going (λ f. children f deeper own) s js₀ behind.now joints₁
           unfolding and_then
-          turn_joint =
+          turn_joint good₁ =
               let short = next_shorter next in
               let read = a (length rest) (omega arith) in
-              goes_on going read.good (follows_on (next_follows next) read.follows) joint_shorter
+              goes_on going good₁ (follows_on (next_follows next) read.follows) joint_shorter
               (λ f l. joint_is some-depth f ∙ rw (a f (omega arith)).says refl)

@@ -6,7 +6,6 @@ use Rattle.refusals.specs.Numbers.{number_of}
 use Rattle.words.specs.Words.{words}
 use Rattle.words.specs.Met.{Follows}
 use Rattle.names.specs.declared.joints.NamedJoint.{NamedJoint}
-use Rattle.names.specs.Names.{names_fault}
 use Rattle.names.specs.Kept.{kept_names, kept_parents}
 use Rattle.hierarchy.specs.Hierarchy.{Joints, Met, left, met_fault}
 
@@ -14,9 +13,8 @@ use Rattle.hierarchy.specs.Hierarchy.{Joints, Met, left, met_fault}
 abbrev pub gathered : List NamedJoint → Joints
 gathered joints = record { names = kept_names joints; parents = kept_parents joints }
 
--- what a reader of the text s answers where this is met: what follows, whose words are left, and the joints, none of them with a fault
+-- what a reader of the text s answers where this is met: what follows, whose words are left, and the joints
 pub record WasRead (s rest : List ℕ) (joints : List NamedJoint) (met : Met) : Type 0 where
-  pub good : names_fault (kept_names joints) ≡ 0
   pub follows : Follows s rest
   pub says : met ≡ left (words rest) (gathered joints)
 

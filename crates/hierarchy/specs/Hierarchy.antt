@@ -1,5 +1,6 @@
 -- How the text of a hierarchy is read (document 02, item 7): its words, its blocks, the joints that they name.
-use Rattle.std.specs.Prelude.{Bool, true, cond, List, [], ◌∷◌, ◌++◌, ℕ, zero, suc, length, get_or, drop}
+use Rattle.std.specs.Prelude.{Bool, true, cond, List, [], ◌∷◌, ◌++◌, ℕ, zero, suc, length, get_or, drop, Some, None}
+use Rattle.std.specs.Prelude as found
 use Rattle.std.proofs.Math.Option.{Option, none, some}
 use Rattle.base.specs.Faults.{first_fault}
 use Rattle.sections.specs.Labels.{same_bytes}
@@ -9,7 +10,7 @@ use Rattle.words.specs.Met.{keyword}
 use Rattle.headings.specs.Headings.{heading, site, child_of}
 use Rattle.names.specs.Names.{names_fault}
 use Rattle.headings.specs.declared.Child.{Child}
-use Rattle.headings.specs.declared.Child.TheVariants.{Close, End, Joint, Other}
+use Rattle.headings.specs.declared.Child.TheVariants.{Close, End, Joint}
 use Rattle.headings.specs.Keywords.{hierarchy_word, root_word, motion_word}
 
 -- JOINTS, in order of appearance: their names, and for each the number of the block that encloses it, 255 for a root
@@ -44,12 +45,12 @@ block inside above (name ∷ ws) js = behind (heading ws) (named js name above) 
 
 -- ITS CHILDREN: JOINT blocks and End Sites in any number and order, up to the closing brace. Here behind the first word of one, in block `own`, in
 -- which blocks may nest `deeper` levels more; `children` reads on.
-unfoldable pub child : Child → (ℕ → ℕ → Words → Joints → Met) → ℕ → ℕ → Words → Joints → Met
-child Close children deeper own ws js = left ws js
-child End children deeper own ws js = behind (site ws) js (λ on. children deeper own on js)
-child Joint children zero own ws js = broken js
-child Joint children (suc d) own ws js = and_then (block (children d) own ws js) (children (suc d) own)
-child Other children deeper own ws js = broken js
+unfoldable pub child : found.Option Child → (ℕ → ℕ → Words → Joints → Met) → ℕ → ℕ → Words → Joints → Met
+child (Some Close) children deeper own ws js = left ws js
+child (Some End) children deeper own ws js = behind (site ws) js (λ on. children deeper own on js)
+child (Some Joint) children zero own ws js = broken js
+child (Some Joint) children (suc d) own ws js = and_then (block (children d) own ws js) (children (suc d) own)
+child None children deeper own ws js = broken js
 
 -- in so many turns: each takes a word
 unfoldable pub children : ℕ → ℕ → ℕ → Words → Joints → Met

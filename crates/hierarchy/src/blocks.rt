@@ -1,13 +1,10 @@
 // Blocks and their children. Joints are gathered as they are met.
-ghost use Rattle.std.specs.Prelude.{◌≡◌};
 ghost use Rattle.words.specs.Words.{words};
-ghost use Rattle.names.specs.Names.{names_fault};
-ghost use Rattle.names.specs.Kept.{kept_names};
 ghost use Rattle.hierarchy.specs.Hierarchy.{block, children};
 ghost use Rattle.hierarchy.specs.Gathered.{gathered, Answered};
 
 use headings::{Child, child_of, heading, site};
-use names::{NamedJoint, NamedJoints, add_joint};
+use names::{NamedJoint, NamedJoints};
 use refusals::Refusal;
 use words::next_word;
 
@@ -19,9 +16,8 @@ pub fn block<'a>(
     deeper: usize,
     joints: &mut NamedJoints<'a>,
 ) -> Result<&'a [u8], Refusal>
-    requires { names_fault (kept_names joints.old.items) ≡ 0 }
-    ensures { Answered text.now result joints.new.items
-        (λ f. block (children f deeper) above (words text.now) (gathered joints.old.items)) }
+    ensures { Answered text.now result joints.new.list.items
+        (λ f. block (children f deeper) above (words text.now) (gathered joints.old.list.items)) }
 {
     let own = joints.len();
     let word = next_word(text).ok_or(Refusal::BadHierarchy)?;
@@ -29,7 +25,7 @@ pub fn block<'a>(
         name: word.bytes,
         parent: above,
     };
-    add_joint(joints, joint)?;
+    joints.add(joint)?;
     let inside = heading(word.rest).ok_or(Refusal::BadHierarchy)?;
     children(inside, own as u8, deeper, joints)
 }
@@ -43,14 +39,13 @@ fn children<'a>(
     deeper: usize,
     joints: &mut NamedJoints<'a>,
 ) -> Result<&'a [u8], Refusal>
-    requires { names_fault (kept_names joints.old.items) ≡ 0 }
-    ensures { Answered text.now result joints.new.items
-        (λ f. children f deeper own (words text.now) (gathered joints.old.items)) }
+    ensures { Answered text.now result joints.new.list.items
+        (λ f. children f deeper own (words text.now) (gathered joints.old.list.items)) }
 {
     let mut rest = text;
     loop {
         let word = next_word(rest).ok_or(Refusal::BadHierarchy)?;
-        match child_of(word.bytes) {
+        match child_of(word.bytes).ok_or(Refusal::BadHierarchy)? {
             Child::Close => return Ok(word.rest),
             Child::End => rest = site(word.rest).ok_or(Refusal::BadHierarchy)?,
             Child::Joint => {
@@ -59,7 +54,6 @@ fn children<'a>(
                 }
                 rest = block(word.rest, own, deeper - 1, joints)?;
             }
-            Child::Other => return Err(Refusal::BadHierarchy),
         }
     }
 }

@@ -6,12 +6,9 @@ mod blocks;
 ghost use Rattle.std.specs.Prelude.{◌≡◌, MatchResult};
 ghost use Rattle.refusals.specs.Numbers.{number_of};
 ghost use Rattle.words.specs.Words.{words};
-ghost use Rattle.names.specs.Names.{names_fault};
-ghost use Rattle.names.specs.Kept.{kept_names};
 ghost use Rattle.hierarchy.specs.Hierarchy.{ends, root_block, roots, hierarchy, met_fault};
 ghost use Rattle.hierarchy.specs.Gathered.{gathered, WasRead, Answered, Shorter};
 
-use arrayvec::ArrayVec;
 use blocks::block;
 use names::NamedJoints;
 use refusals::Refusal;
@@ -41,9 +38,8 @@ fn ends(text: &[u8]) -> bool
 
 // Reads a ROOT block.
 fn root<'a>(text: &'a [u8], joints: &mut NamedJoints<'a>) -> Result<&'a [u8], Refusal>
-    requires { names_fault (kept_names joints.old.items) ≡ 0 }
-    ensures answered { Answered text.now result joints.new.items
-        (λ f. root_block f (words text.now) (gathered joints.old.items)) }
+    ensures answered { Answered text.now result joints.new.list.items
+        (λ f. root_block f (words text.now) (gathered joints.old.list.items)) }
     ensures shorter { Shorter text.now result }
 {
     let name = keyword(text, b"ROOT").ok_or(Refusal::BadHierarchy)?;
@@ -52,9 +48,8 @@ fn root<'a>(text: &'a [u8], joints: &mut NamedJoints<'a>) -> Result<&'a [u8], Re
 
 // Reads ROOT blocks, one or more, up to MOTION or the end, which stands behind a block: so the loop has its end inside.
 fn roots<'a>(text: &'a [u8], joints: &mut NamedJoints<'a>) -> Result<&'a [u8], Refusal>
-    requires { names_fault (kept_names joints.old.items) ≡ 0 }
-    ensures { Answered text.now result joints.new.items
-        (λ f. roots f (words text.now) (gathered joints.old.items)) }
+    ensures { Answered text.now result joints.new.list.items
+        (λ f. roots f (words text.now) (gathered joints.old.list.items)) }
 {
     let mut rest = text;
     loop {
@@ -67,10 +62,10 @@ fn roots<'a>(text: &'a [u8], joints: &mut NamedJoints<'a>) -> Result<&'a [u8], R
 
 // Reads the hierarchy, and gathers its joints.
 pub fn read(text: &[u8]) -> Result<Hierarchy<'_>, Refusal>
-    ensures { MatchResult result (λ h. WasRead text.now h.rest.now h.joints.items (hierarchy text.now))
+    ensures { MatchResult result (λ h. WasRead text.now h.rest.now h.joints.list.items (hierarchy text.now))
         (λ refusal. met_fault (hierarchy text.now) ≡ number_of refusal) }
 {
-    let mut joints = ArrayVec::new();
+    let mut joints = NamedJoints::new();
     let first = keyword(text, b"HIERARCHY").ok_or(Refusal::BadHierarchy)?;
     let rest = roots(first, &mut joints)?;
     Ok(Hierarchy { joints, rest })

@@ -1,7 +1,7 @@
--- Laws of the joints that the code keeps: is a word one of their names?
+-- Laws of the joints that the code keeps: one joint more, and is a word one of their names?
 use mathlib.Core.Path.{◌≡◌, sym, ◌∙◌}
 use mathlib.Core.Bool.{Bool, true, false}
-use mathlib.Core.List.{List, [], ◌∷◌}
+use mathlib.Core.List.{List, [], ◌∷◌, ◌++◌, map-append}
 use Prim.Native.Nat.{ℕ, zero, suc, ◌<◌}
 use native.Mathlib.Omega.{arith}
 use lib.ListN.{length, length-map}
@@ -10,14 +10,23 @@ use lib.Pointwise.{pointwise}
 use Rattle.std.specs.List.{list_any}
 use Rattle.base.proofs.Cases.{case, both_ways, unlike}
 use Rattle.base.proofs.Chains.{any_told}
+use Rattle.base.proofs.Faults.{fault_passes, last_fault}
 use Rattle.words.proofs.MetLaws.{pointwise_same}
 use Rattle.names.specs.declared.joints.NamedJoint.{NamedJoint}
-use Rattle.names.specs.Names.{is_named, is_known}
+use Rattle.names.specs.Names.{is_named, is_known, name_fault, names_fault}
 use Rattle.names.specs.Kept.{kept_names}
+use Rattle.names.proofs.NameLaws.{names_more}
 
 -- as many names as joints
 pub names_length : (joints : List NamedJoint) → length (kept_names joints) ≡ length joints
 names_length joints = length-map joints (λ j. j.name.now)
+
+-- a joint more, whose name has no fault behind theirs
+pub added_none : (joints : List NamedJoint) {added : List NamedJoint} (joint : NamedJoint) → names_fault (kept_names joints) ≡ 0
+    → name_fault (kept_names joints) joint.name.now ≡ 0 → added ≡ joints ++ (joint ∷ []) → names_fault (kept_names added) ≡ 0
+added_none joints joint good fit adds =
+    rw (adds, map-append (λ j. j.name.now) joints (joint ∷ []))
+    (names_more (kept_names joints) joint.name.now ∙ fault_passes _ _ good ∙ last_fault _ ∙ fit)
 
 module _ (w : List ℕ) where
   abbrev pub has_it : NamedJoint → Bool

@@ -10,18 +10,18 @@ returns-in_err-hierarchy c =
 
 pub returns-then-out-size : goal.returns-then-out-size
 returns-then-out-size c =
-    let size = rw c.as_slice-joints.ensures.value at c.size_of-size.ensures in
-    let says = import_short c.in_ok-hierarchy.ensures c.args.out.now _ size c.if-out-size.true in
+    let size = rw c.as_slice-joints.ensures at c.size_of-size.ensures in
+    let says = import_short c.in_ok-hierarchy.hierarchy.joints.good c.in_ok-hierarchy.ensures c.args.out.now _ size c.if-out-size.true in
     record { value = says.0; out_after = says.1 }
 
 pub write_sheet-requires : goal.write_sheet-requires
 write_sheet-requires c =
-    let size = rw c.as_slice-joints.ensures.value at c.size_of-size.ensures in
-    rw c.as_slice-joints.ensures.value (read_writable c.in_ok-hierarchy.ensures, omega (arith, size, c.if-out-size.false))
+    let size = rw c.as_slice-joints.ensures at c.size_of-size.ensures in
+    rw c.as_slice-joints.ensures (read_writable c.in_ok-hierarchy.hierarchy.joints.good c.in_ok-hierarchy.ensures, omega (arith, size, c.if-out-size.false))
 
 pub returns : goal.returns
 returns c =
-    let size = rw c.as_slice-joints.ensures.value at c.size_of-size.ensures in
-    let wrote = rw c.as_slice-joints.ensures.value at c.write_sheet.ensures in
-    let says = import_written c.in_ok-hierarchy.ensures c.args.out.now _ _ size c.if-out-size.false wrote in
+    let size = rw c.as_slice-joints.ensures at c.size_of-size.ensures in
+    let wrote = rw c.as_slice-joints.ensures at c.write_sheet.ensures in
+    let says = import_written c.in_ok-hierarchy.hierarchy.joints.good c.in_ok-hierarchy.ensures c.args.out.now _ _ size c.if-out-size.false wrote in
     record { value = says.0; out_after = says.1 }

@@ -2,7 +2,6 @@ use Rattle.std.proofs.Common.{◌≡◌, Err, Ok, rules}
 use Rattle.words.specs.Words.{words}
 use Rattle.words.specs.Met.{keyword, Reaches}
 use Rattle.headings.specs.Keywords.{hierarchy_word}
-use Rattle.names.proofs.NameLaws.{names_none}
 use Rattle.hierarchy.proofs.Asked.{some_met, none_met}
 use Rattle.hierarchy.proofs.RootLaws.{whole_broken, whole_answered}
 use Rattle.hierarchy.proofs.read.Goals as goal
@@ -14,18 +13,15 @@ returns-in_err-first c =
     let passed : c.from_residual.result ≡ Err c.in_err-first.field-0.0 = search rules in
     rw (passed, none.1) (whole_broken _ none.0)
 
-pub roots-requires : goal.roots-requires
-roots-requires c = rw c.new-joints.ensures names_none
-
 pub returns-in_err-rest : goal.returns-in_err-rest
 returns-in_err-rest c =
     let text = c.args.text.now in
     let first = some_met (λ r. Reaches text r (keyword hierarchy_word (words text))) _ _ c.in_ok-first.ensures.value c.keyword.ensures in
     let passed : c.from_residual-in_err-rest.result ≡ Err c.in_err-rest.field-0.0 = search rules in
-    rw passed (whole_answered c.new-joints.ensures first (Err c.in_err-rest.field-0.0) c.roots.new.joints.items c.in_err-rest.ensures)
+    rw passed (whole_answered c.new-joints.ensures first (Err c.in_err-rest.field-0.0) c.roots.new.joints.list.items c.in_err-rest.ensures)
 
 pub returns : goal.returns
 returns c =
     let text = c.args.text.now in
     let first = some_met (λ r. Reaches text r (keyword hierarchy_word (words text))) _ _ c.in_ok-first.ensures.value c.keyword.ensures in
-    whole_answered c.new-joints.ensures first (Ok c.in_ok-rest.rest) c.roots.new.joints.items c.in_ok-rest.ensures
+    whole_answered c.new-joints.ensures first (Ok c.in_ok-rest.rest) c.roots.new.joints.list.items c.in_ok-rest.ensures

@@ -11,7 +11,7 @@ returns-in_err-name-clause-answered c =
     let text = c.args.text.now in
     let none = none_met (λ r. Reaches text r (keyword root_word (words text))) _ _ c.in_err-name.ensures.value c.keyword.ensures in
     let passed : c.from_residual.result ≡ Err c.in_err-name.field-0.0 = search rules in
-    rw (passed, none.1) (λ f l. root_broken _ _ c.requires none.0 f)
+    rw (passed, none.1) (λ f l. root_broken _ _ c.args.joints.now.good none.0 f)
 
 pub returns-clause-answered : goal.returns-clause-answered
 returns-clause-answered c =

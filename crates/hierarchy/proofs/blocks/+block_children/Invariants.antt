@@ -12,7 +12,7 @@ abbrev pub decreases-children : goal.decreases-children
 decreases-children l = length l.text.now + l.deeper
 
 abbrev pub invariant-children-loop-word : goal.invariant-children-loop-word
-invariant-children-loop-word l = Going (λ f. children f l.deeper l.own) l.text (gathered l.initial.joints.items) l.rest l.joints.items
+invariant-children-loop-word l = Going (λ f. children f l.deeper l.own) l.text (gathered l.initial.joints.list.items) l.rest l.joints.list.items
 
 abbrev pub decreases-children-loop-word : goal.decreases-children-loop-word
 decreases-children-loop-word l = length l.rest
