@@ -29,6 +29,12 @@ unfolding any_below
 none_any zero test h = refl
 none_any (suc n) test h = rw (none_any n test (λ i l. h i (omega arith))) (h n (omega arith))
 
+-- tests that agree below n
+pub any_agree : (n : ℕ) (p q : ℕ → Bool) → ((i : ℕ) → i < n → p i ≡ q i) → any_below n p ≡ any_below n q
+unfolding any_below
+any_agree zero p q h = refl
+any_agree (suc n) p q h = rw (any_agree n p q (λ i l. h i (omega arith)), h n (omega arith)) refl
+
 -- IN A LOOP that leaves at the first hit
 pub any_hit : (n : ℕ) (test : ℕ → Bool) (i : ℕ) → i < n → test i ≡ true → any_below n test ≡ true
 unfolding any_below

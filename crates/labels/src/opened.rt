@@ -2,7 +2,7 @@
 ghost use Rattle.std.specs.Prelude.{◌≡◌, ◌+◌, ◌*◌, ◌<◌, ◌≤◌, length};
 ghost use Rattle.sections.specs.Labels.{label_at};
 
-use sections::label_at;
+use sections::LABEL_WIDTH;
 
 // The lent bytes, and where the labels and the rankings begin in them.
 #[derive(Clone, Copy)]
@@ -31,7 +31,7 @@ impl<'a> Opened<'a> {
         requires { (i < 128) × (self.labels + 16 * i + 16 ≤ self.rankings) }
         ensures { result.now ≡ label_at self.entry.bytes.now self.entry.labels i }
     {
-        let section = &self.bytes[self.labels..self.rankings];
-        label_at(section, 0, i)
+        let (section, _) = self.bytes[self.labels..self.rankings].as_chunks::<LABEL_WIDTH>();
+        &section[i]
     }
 }

@@ -1,5 +1,5 @@
 // The parents' section: nothing, or a count and the parents of as many joints.
-ghost use Rattle.std.specs.Prelude.{◌≡◌, ◌≤◌, ◌<◌, length};
+ghost use Rattle.std.specs.Prelude.{◌≡◌, ◌<◌, length};
 ghost use Rattle.base.specs.Below.{any_below};
 ghost use Rattle.refusals.specs.Numbers.{answered};
 ghost use Rattle.parents.specs.Parents.{bad_parent, extent_fault, counted_fault, parents_fault, parents_in};
@@ -33,31 +33,29 @@ fn is_bad(part: &[u8], joint: usize) -> bool
     above != ROOT && joint <= above
 }
 
-fn some_bad(part: &[u8], count: usize) -> bool
-    requires { count ≤ length part.now }
-    ensures { result ≡ any_below count (bad_parent part.now) }
+fn some_bad(part: &[u8]) -> bool
+    ensures { result ≡ any_below (length part.now) (bad_parent part.now) }
 {
-    (0..count).any(|joint| is_bad(part, joint))
+    (0..part.len()).any(|joint| is_bad(part, joint))
 }
 
-// Reads the parents that the part begins with, as many as were counted: one for each of n joints.
-fn read_parents(part: &[u8], n: usize, count: usize) -> Result<usize, Refusal>
-    requires { count ≤ length part.now }
-    ensures { result ≡ answered (counted_fault n count part.now) count }
+// Reads a parent for each of n joints.
+fn read_parents(part: &[u8], n: usize) -> Result<usize, Refusal>
+    ensures { result ≡ answered (counted_fault n (length part.now) part.now) (length part.now) }
 {
-    if count != n || some_bad(part, count) {
+    if part.len() != n || some_bad(part) {
         return Err(Refusal::BadParents);
     }
-    Ok(count)
+    Ok(part.len())
 }
 
-// Reads the section, if it is there: its parents are the part after its count.
+// Reads the section, if it is there: its parents are the part after its count, as many as it counts.
 pub fn read_third(third: &[u8], n: usize) -> Result<usize, Refusal>
     requires { extent_fault third.now ≡ 0 }
     ensures { result ≡ answered (parents_fault n third.now) (length (parents_in third.now)) }
 {
-    let Some((count, part)) = third.split_first() else {
+    let Some((_, part)) = third.split_first() else {
         return Ok(0);
     };
-    read_parents(part, n, usize::from(*count))
+    read_parents(part, n)
 }

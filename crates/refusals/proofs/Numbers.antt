@@ -1,5 +1,6 @@
 -- Laws of the refusals' numbers.
-use Rattle.std.proofs.Common.{◌≡◌, ◌≢◌, ℕ, zero, suc, ◌+◌, ◌≤◌, ◌<◌, ◌⊎◌, ◌↔◌, inl, inr, List, [], ◌∷◌, Option, Some, None, Result, Ok, Err, refl, sym, ap, ◌∙◌, arith, rules, get_or}
+use Rattle.std.proofs.Common.{◌≡◌, ◌≢◌, ℕ, zero, suc, ◌+◌, ◌≤◌, ◌<◌, ◌⊎◌, ◌↔◌, inl, inr, refl, sym, ap, ◌∙◌, arith, rules}
+use Rattle.std.proofs.Common.{List, [], ◌∷◌, Option, Some, None, Result, Ok, Err, get_or}
 use Rattle.base.proofs.Cases.{case}
 use Rattle.refusals.specs.Numbers.{number_of, by_number, refusal_of, unless, answered, fault_of, fault_in, RefusedAs}
 use Rattle.refusals.specs.Claims.{NumberedOnce}

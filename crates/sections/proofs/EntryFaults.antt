@@ -56,11 +56,6 @@ pub entry_sound : (m n : ℕ) (part : List ℕ) → entries_fault m n part ≡ 0
 entry_sound m n part h j l =
     let t = tests_fail n part j (below_none m (entry_fault n part) h j l) in inside_sound n (entry_in part j) t.0 t.1
 
--- .. and fits the square
-pub entry_fits : (m n : ℕ) (part : List ℕ) → entries_fault m n part ≡ 0 → n ≤ 128
-    → (j : ℕ) → j < m → ((entry_in part j).joint < 128) × ((entry_in part j).other < 128)
-entry_fits m n part h few j l = let s = entry_sound m n part h j l in omega arith
-
 pub next_after : (m n : ℕ) (part : List ℕ) → entries_fault m n part ≡ 0
     → (j : ℕ) → suc j < m → Before (entry_in part j) (entry_in part (suc j))
 next_after m n part h j l =

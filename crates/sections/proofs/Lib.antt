@@ -7,3 +7,4 @@ pub mod Ranks
 pub mod EntryList
 pub mod Places
 pub mod BandIn
+pub mod Chunks

@@ -1,5 +1,5 @@
 -- The entries of the rankings' section, three bytes each. Refusals 4, 5 and 6.
-use Rattle.std.specs.Prelude.{Bool, false, ◌&&◌, ◌||◌, not, cond, List, [], ◌∷◌, ℕ, zero, suc, ◌+◌, ◌*◌, eqb, ltb, leb, get_or}
+use Rattle.std.specs.Prelude.{Bool, false, ◌&&◌, ◌||◌, not, cond, List, [], ◌∷◌, map, ℕ, zero, suc, ◌+◌, ◌*◌, eqb, ltb, leb, get_or}
 use Rattle.base.specs.Faults.{when, first_fault, fault_below}
 use Rattle.sections.specs.declared.Entry.{Entry}
 
@@ -22,6 +22,10 @@ entries_from (suc f) j part = entry_in part j ∷ entries_from f (suc j) part
 
 abbrev pub entry_of : List Entry → ℕ → Entry
 entry_of es j = get_or es j (entry 0 0 0)
+
+-- the entries that chunks of three bytes are
+abbrev pub entries_in : List (List ℕ) → List Entry
+entries_in chunks = map (λ (b : List ℕ). entry_in b 0) chunks
 
 -- the band of b on a's list, 0 for unlisted
 unfoldable pub band_in : List Entry → ℕ → ℕ → ℕ

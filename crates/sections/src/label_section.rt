@@ -1,8 +1,9 @@
 // The labels' section.
-ghost use Rattle.std.specs.Prelude.{◌≡◌, ◌+◌, ◌*◌, ◌<◌, ◌≤◌, length, drop};
+ghost use Rattle.std.specs.Prelude.{◌≡◌, ◌*◌, ◌<◌, ◌≤◌, length};
+ghost use Rattle.std.specs.List.{concat};
 ghost use Rattle.base.specs.Below.{any_below};
 ghost use Rattle.refusals.specs.Numbers.{answered};
-ghost use Rattle.sections.specs.Labels.{label_width, label_at, visible, visible_run, all_zero, label_ok, repeats, label_bad, labels_fault};
+ghost use Rattle.sections.specs.Labels.{label_width, visible, visible_run, all_zero, label_ok, repeats, label_bad, labels_fault};
 
 use crate::{Joints, LABEL_WIDTH};
 use refusals::Refusal;
@@ -37,42 +38,32 @@ fn label_ok(label: &[u8]) -> bool
     1 <= run && is_zero(&label[run..])
 }
 
-// Label i of a sheet, or of a part of it, whose labels begin at `labels`.
-pub fn label_at(sheet: &[u8], labels: usize, i: usize) -> &[u8]
-    requires { (i < 128) × (labels + label_width * i + label_width ≤ length sheet.now) }
-    ensures { result.now ≡ label_at sheet.now labels i }
+fn repeats_label(labels: &[[u8; 16]], i: usize, j: usize) -> bool
+    requires { (i < length labels.now) × (j < i) }
+    ensures { result ≡ repeats (concat labels.now) i j }
 {
-    let start = labels + LABEL_WIDTH * i;
-    &sheet[start..start + LABEL_WIDTH]
-}
-
-fn repeats_label(part: &[u8], i: usize, j: usize) -> bool
-    requires { (i < 128) × ((label_width * i + label_width ≤ length part.now) × (j < i)) }
-    ensures { result ≡ repeats part.now i j }
-{
-    label_at(part, 0, i) == label_at(part, 0, j)
+    labels[i] == labels[j]
 }
 
 // Does label i repeat an earlier one?
-fn repeats_any(part: &[u8], i: usize) -> bool
-    requires { (i < 128) × (label_width * i + label_width ≤ length part.now) }
-    ensures { result ≡ any_below i (repeats part.now i) }
+fn repeats_any(labels: &[[u8; 16]], i: usize) -> bool
+    requires { i < length labels.now }
+    ensures { result ≡ any_below i (repeats (concat labels.now) i) }
 {
-    (0..i).any(|j| repeats_label(part, i, j))
+    (0..i).any(|j| repeats_label(labels, i, j))
 }
 
-fn label_bad(part: &[u8], i: usize) -> bool
-    requires { (i < 128) × (label_width * i + label_width ≤ length part.now) }
-    ensures { result ≡ label_bad part.now i }
+fn label_bad(labels: &[[u8; 16]], i: usize) -> bool
+    requires { i < length labels.now }
+    ensures { result ≡ label_bad (concat labels.now) i }
 {
-    !label_ok(label_at(part, 0, i)) || repeats_any(part, i)
+    !label_ok(&labels[i]) || repeats_any(labels, i)
 }
 
-fn some_label_bad(part: &[u8], n: Joints) -> bool
-    requires { label_width * n.count ≤ length part.now }
-    ensures { result ≡ any_below n.count (label_bad part.now) }
+fn some_label_bad(labels: &[[u8; 16]]) -> bool
+    ensures { result ≡ any_below (length labels.now) (label_bad (concat labels.now)) }
 {
-    (0..n.count).any(|i| label_bad(part, i))
+    (0..labels.len()).any(|i| label_bad(labels, i))
 }
 
 // Reads the n labels that the part begins with: their length in bytes.
@@ -80,10 +71,11 @@ pub fn read_labels(part: &[u8], n: Joints) -> Result<usize, Refusal>
     ensures { result ≡ answered (labels_fault n.count part.now) (label_width * n.count) }
 {
     let size = LABEL_WIDTH * n.count;
-    if part.len() < size {
+    let Some(section) = part.get(..size) else {
         return Err(Refusal::SheetCutShort);
-    }
-    if some_label_bad(part, n) {
+    };
+    let (labels, _) = section.as_chunks::<LABEL_WIDTH>();
+    if some_label_bad(labels) {
         return Err(Refusal::BadLabel);
     }
     Ok(size)

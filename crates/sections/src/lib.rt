@@ -5,9 +5,12 @@ mod entry_section;
 mod joints;
 mod label_section;
 
-pub use entry_section::{entry_in, read_entries};
+ghost use Rattle.std.specs.Prelude.{◌≡◌};
+ghost use Rattle.sections.specs.Entries.{entry_in};
+
+pub use entry_section::read_entries;
 pub use joints::Joints;
-pub use label_section::{label_at, read_labels, visible_run};
+pub use label_section::{read_labels, visible_run};
 
 // The bytes of a label and of an entry.
 pub const LABEL_WIDTH: usize = 16;
@@ -20,4 +23,17 @@ pub struct Entry {
     pub joint: usize,
     pub other: usize,
     pub band: u8,
+}
+
+impl From<[u8; 3]> for Entry {
+    ghost from_gives = { λ bytes e. e ≡ entry_in bytes 0 };
+
+    fn from(bytes: [u8; 3]) -> Entry {
+        let [joint, other, band] = bytes;
+        Entry {
+            joint: usize::from(joint),
+            other: usize::from(other),
+            band,
+        }
+    }
 }

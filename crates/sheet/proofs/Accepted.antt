@@ -2,9 +2,9 @@
 use mathlib.Core.Path.{◌≡◌, sym, ◌∙◌}
 use mathlib.Core.List.{List}
 use mathlib.Core.Logic.{◌≢◌}
-use Prim.Native.Nat.{ℕ, ◌+◌, ◌*◌, ◌-◌, ◌≤◌, ◌<◌}
+use Prim.Native.Nat.{ℕ, ◌*◌, ◌-◌, ◌≤◌, ◌<◌}
 use native.Mathlib.Omega.{arith}
-use lib.ListN.{length, get_or, length-drop}
+use lib.ListN.{length, length-drop}
 use borrow.Author.Tests.{ltb-false, eqb-false}
 use Rattle.base.proofs.Faults.{first_none, last_fault, when_none}
 use Rattle.sections.specs.Entries.{entry_width, entries_fault}
@@ -13,7 +13,7 @@ use Rattle.sections.specs.Claims.{GoodLabels}
 use Rattle.sections.proofs.LabelRule.{labels_rule}
 use Rattle.parents.specs.Parents.{extent_fault, parents_fault}
 use Rattle.parents.proofs.SectionRule.{section_rule}
-use Rattle.sheet.specs.Format.{joints, labels_part, count_start, rank_count, rank_start, rankings_part, rank_end, third}
+use Rattle.sheet.specs.Format.{joints, labels_part, rank_count, rank_start, rankings_part, rank_end, third}
 use Rattle.sheet.specs.Refusals.{sheet_faults, sheet_fault, extents_fault}
 use Rattle.sheet.specs.Claims.{AcceptedParents}
 use Rattle.sheet.proofs.FaultLists.{split_faults}
@@ -78,7 +78,3 @@ accepted s h =
 
 pub accepted_parents : AcceptedParents
 accepted_parents s h = let a = accepted s h in (section_rule (joints s) (third s)).0 (a.third_extent, a.parents)
-
--- two bytes count below 65536
-pub count_small : (s : List ℕ) → ((i : ℕ) → get_or s i 0 < 256) → rank_count s < 65536
-count_small s bytes = let low = bytes (count_start s) in let high = bytes (count_start s + 1) in omega arith

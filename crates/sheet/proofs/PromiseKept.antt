@@ -19,7 +19,7 @@ use Rattle.sheet.proofs.Accepted.{accepted}
 
 -- entries without a fault, as a list
 module _ (m n : ℕ) (part : List ℕ) (clean : entries_fault m n part ≡ 0) where
-  sound_entries : Each (Sound n) (entries_from m 0 part)
+  pub sound_entries : Each (Sound n) (entries_from m 0 part)
   sound_entries j l =
       let k : j < m = rw (length_entries m 0 part) at l in rw (entry_at m part j k) (entry_sound m n part clean j k)
 

@@ -1,9 +1,14 @@
 -- Laws of a whole sheet's reading, one for each way that the reader takes.
-use mathlib.Core.Path.{◌≡◌, ◌∙◌}
+use mathlib.Core.Path.{◌≡◌, ap, ◌∙◌}
 use mathlib.Core.List.{List}
 use Rattle.std.proofs.Common.{Ok}
-use Prim.Native.Nat.{ℕ, ◌≤◌, ◌<◌}
-use lib.ListN.{length, take, drop}
+use Prim.Native.Nat.{ℕ, ◌+◌, ◌-◌, ◌*◌, ◌≤◌, ◌<◌}
+use native.Mathlib.Nat.{add-zero}
+use native.Mathlib.Omega.{arith}
+use lib.ListN.{length, get_or, take, drop}
+use lib.Seq.{get_or-take, get_or-drop}
+use Rattle.std.specs.Int.{w16, from_le_bytes}
+use Rattle.base.proofs.Places.{rest_is}
 use borrow.Author.Tests.{eq-eqb, ne_eqb, lt-ltb, le-ltb}
 use Rattle.base.specs.Faults.{first_fault}
 use Rattle.base.proofs.Faults.{fault_stops, fault_passes, last_fault}
@@ -16,6 +21,17 @@ use Rattle.sheet.specs.Format.{joints, labels_start, labels_part, rank_count, ra
 use Rattle.sheet.specs.Refusals.{sheet_faults, sheet_fault, extents_fault}
 use Rattle.sheet.specs.Readings.{parts_of}
 use Rattle.sheet.proofs.FaultLists.{in_first_part, in_second_part}
+
+-- a count of two bytes, low byte first
+pub two_bytes : (s : List ℕ) (k : ℕ) (bytes : List ℕ) (n : ℕ) → bytes ≡ take 2 (take (length s - k) (drop k s)) → n ≡ from_le_bytes w16 bytes
+    → n ≡ get_or s k 0 + 256 * get_or s (k + 1) 0
+two_bytes s k bytes n is h =
+    let low : get_or bytes 0 0 ≡ get_or s k 0 = byte 0 (omega arith) ∙ ap (λ (j : ℕ). get_or s j 0) (add-zero k) in
+    omega (arith, h, low, byte 1 (omega arith))
+  where
+    byte : (i : ℕ) → i < 2 → get_or bytes i 0 ≡ get_or s (k + i) 0
+    byte i l =
+        ap (λ (b : List ℕ). get_or b i 0) (is ∙ ap (λ (b : List ℕ). take 2 b) (rest_is k s)) ∙ get_or-take 2 (drop k s) i 0 l ∙ get_or-drop k s i 0
 
 -- no fault: the parts, as they are read
 pub accepted_as : (s : List ℕ) {f n m k l : ℕ} → n ≡ joints s → m ≡ rank_count s → k ≡ rank_start s → l ≡ rank_end s → f ≡ 0

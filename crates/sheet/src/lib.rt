@@ -3,7 +3,7 @@
 
 mod rankings;
 
-ghost use Rattle.std.specs.Prelude.{◌≡◌, ◌+◌, ◌*◌, ◌<◌, length, get_or, Err, MatchResult};
+ghost use Rattle.std.specs.Prelude.{◌≡◌, Err, MatchResult};
 ghost use Rattle.refusals.specs.Numbers.{answered};
 ghost use Rattle.sheet.specs.Refusals.{extents_fault};
 ghost use Rattle.sheet.specs.Readings.{parts_of, reading_of, square_in, ReadsAs};
@@ -12,6 +12,7 @@ use parents::{parents_extent, read_third};
 pub use rankings::Rankings;
 use refusals::Refusal;
 use sections::{ENTRY_WIDTH, Joints};
+use square::Listings;
 
 // Where the labels begin.
 const LABELS: usize = 1;
@@ -34,15 +35,6 @@ pub struct Sheet {
     pub rankings: Rankings,
 }
 
-// A count of two bytes, low byte first.
-fn count_at(sheet: &[u8], at: usize) -> usize
-    requires { at + 1 < length sheet.now }
-    ensures value { result ≡ get_or sheet.now at 0 + 256 * get_or sheet.now (at + 1) 0 }
-    ensures upper_bound { result < 65536 }
-{
-    usize::from(sheet[at]) + 256 * usize::from(sheet[at + 1])
-}
-
 // Where the sections lie, and the labels' contents.
 fn extents(sheet: &[u8]) -> Result<Parts, Refusal>
     ensures { result ≡ answered (extents_fault sheet.now) (parts_of sheet.now) }
@@ -53,11 +45,11 @@ fn extents(sheet: &[u8]) -> Result<Parts, Refusal>
     let n = Joints::try_from(sheet[0])?;
     let size = sections::read_labels(&sheet[LABELS..], n)?;
     let count = LABELS + size;
-    let start = count + 2;
-    if sheet.len() < start {
+    let Some(bytes) = sheet[count..].first_chunk::<2>() else {
         return Err(Refusal::SheetCutShort);
-    }
-    let m = count_at(sheet, count);
+    };
+    let m = usize::from(u16::from_le_bytes(*bytes));
+    let start = count + 2;
     let end = start + ENTRY_WIDTH * m;
     if sheet.len() < end {
         return Err(Refusal::SheetCutShort);
@@ -79,10 +71,10 @@ pub fn lists(sheet: &[u8], bands: &mut [[u8; 128]; 128]) -> Result<Parts, Refusa
     ensures bands_after { bands.new ≡ square_in sheet.now bands.old }
 {
     let parts = extents(sheet)?;
-    let part = &sheet[parts.rankings..];
-    sections::read_entries(part, parts.joints, parts.entries)?;
+    let (entries, _) = sheet[parts.rankings..parts.parents].as_chunks::<ENTRY_WIDTH>();
+    sections::read_entries(entries, parts.joints)?;
     read_third(&sheet[parts.parents..], parts.joints)?;
-    square::fill(part, parts.entries, bands);
+    Listings { entries }.fill(bands);
     Ok(parts)
 }
 

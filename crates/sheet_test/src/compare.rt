@@ -70,7 +70,10 @@ fn band_is(bands: &Bands, a: usize, b: usize, k: usize) -> bool {
 
 // Is the text label i?
 fn label_is(sheet: &[u8], i: usize, text: &str) -> bool {
-    i < 128 && 17 + 16 * i <= sheet.len() && sections::label_at(sheet, 1, i) == text.as_bytes()
+    let (labels, _) = sheet.get(1..).unwrap_or(&[]).as_chunks::<16>();
+    labels
+        .get(i)
+        .is_some_and(|label| label.as_slice() == text.as_bytes())
 }
 
 // One check of an accepted sheet: `band a b k`, or `label i text`.

@@ -1,64 +1,57 @@
--- From the last entry to the first: of m entries those from j on are placed, then those from j - 1 on.
-use mathlib.Core.Path.{◌≡◌, refl, ap, ◌∙◌}
+-- From the last entry to the first: those that were met, in the order of the list, and which of them pass a test.
+use mathlib.Core.Path.{◌≡◌, sym, ap, subst, ◌∙◌}
 use mathlib.Core.Bool.{Bool, cond}
-use mathlib.Core.List.{List, [], ◌∷◌}
-use Prim.Native.Nat.{ℕ, suc, ◌-◌, ◌≤◌, ◌<◌}
+use mathlib.Core.List.{List, [], ◌∷◌, ◌++◌, map, reverse}
+use Prim.Native.Nat.{ℕ, ◌-◌, ◌<◌}
 use native.Mathlib.Omega.{arith}
+use denote.Ref.{Bor}
 use lib.Dec.{ltb}
+use lib.ListN.{length, get_or, length-reverse}
+use Rattle.std.proofs.lemmas.List.{map_push, length-map, get_or-map, get_or-reverse, reverse-append, reverse-reverse}
 use Rattle.base.proofs.Cases.{case, both_ways}
 use Rattle.sections.specs.declared.Entry.{Entry}
-use Rattle.sections.specs.Entries.{entry_in, entries_from, entry_of}
-use Rattle.sections.specs.Claims.{Each}
-use Rattle.sections.proofs.EntryList.{length_entries, entry_at}
-use Rattle.square.specs.Inside.{Inside}
+use Rattle.sections.specs.Entries.{entry, entry_in, entries_in, entry_of}
+use Rattle.square.specs.Inside.{Fits, Inside}
 use Rattle.square.specs.Mutual.{only, returned, mutual_entries}
-use Rattle.square.specs.Square.{at, put, blank, placed}
-use Rattle.square.proofs.Only.{only_nil, only_more, only_agree}
-use Rattle.square.proofs.Placed.{Fits, placed_none, placed_more, placed_bands}
+use Rattle.square.specs.Square.{at, put, placed}
+use Rattle.square.proofs.Only.{only_more, only_agree}
+use Rattle.square.proofs.Placed.{placed_more, placed_bands}
 
-module _ (m : ℕ) (part : List ℕ) where
-  -- those from j on
-  abbrev pub from : ℕ → List Entry
-  from j = entries_from (m - j) j part
+abbrev pub bytes_of : Bor (List ℕ) → List ℕ
+bytes_of b = b.now
 
-  pub from_end : from m ≡ []
-  unfolding entries_from
-  from_end = let e : m - m ≡ 0 = omega arith in rw e
+abbrev pub met : List (Bor (List ℕ)) → List Entry
+met items = entries_in (reverse (map bytes_of items))
 
-  from_next : (f i : ℕ) → entries_from (suc f) i part ≡ entry_in part i ∷ entries_from f (suc i) part
-  unfolding entries_from
-  from_next f i = refl
+pub met_more : (items : List (Bor (List ℕ))) (x : Bor (List ℕ)) → met (items ++ x ∷ []) ≡ entry_in x.now 0 ∷ met items
+met_more items x = ap (λ (l : List (List ℕ)). entries_in (reverse l)) (map_push bytes_of items x) ∙ ap entries_in (reverse-append (map bytes_of items) (x.now ∷ []))
 
-  pub from_before : (j : ℕ) → 0 < j → j ≤ m → from (j - 1) ≡ entry_in part (j - 1) ∷ from j
-  from_before j some inside =
-      let e : m - (j - 1) ≡ suc (m - j) = omega arith in
-      let i : suc (j - 1) ≡ j = omega arith in
-      rw e (from_next (m - j) (j - 1) ∙ ap (λ (k : ℕ). entry_in part (j - 1) ∷ entries_from (m - j) k part) i)
+pub met_all : (entries : List (List ℕ)) (items : List (Bor (List ℕ))) → map bytes_of items ≡ reverse entries → met items ≡ entries_in entries
+met_all entries items h = ap (λ (l : List (List ℕ)). entries_in (reverse l)) h ∙ ap entries_in (reverse-reverse entries)
 
-  pub from_start : (j : ℕ) → j ≤ 0 → from j ≡ entries_from m 0 part
-  from_start j none = let z : j ≡ 0 = omega arith in let e : m - 0 ≡ m = omega arith in rw (z, e)
+-- the one that is met after k others has its place
+pub met_fits : (entries : List (List ℕ)) → Inside entries → (x : List ℕ) (k : ℕ) → (k < length (reverse entries)) × (x ≡ get_or (reverse entries) k x)
+    → Fits (entry_in x 0)
+met_fits entries inside x k h =
+    let l : k < length entries = omega (arith, h.0, length-reverse entries) in
+    let j : ℕ = length entries - 1 - k in
+    let below : j < length entries = omega arith in
+    let is : get_or entries j x ≡ x = sym (h.1 ∙ get_or-reverse entries k x l) in
+    let same : get_or (entries_in entries) j (entry 0 0 0) ≡ entry_in x 0 =
+    get_or-map (λ (b : List ℕ). entry_in b 0) entries j x (entry 0 0 0) below ∙ ap (λ (b : List ℕ). entry_in b 0) is in
+    subst Fits same (inside j (rw (length-map entries (λ (b : List ℕ). entry_in b 0)) below))
 
-  -- those of them that pass a test, placed
-  module _ (test : ℕ → ℕ → Bool) where
-    placed_by : (b : Bool) (e : Entry) (es : List Entry) → placed (cond b (e ∷ es) es) ≡ cond b (put (placed es) e) (placed es)
-    placed_by b e es = case (both_ways b) (λ h. rw h (placed_more e es)) (λ h. rw h)
+-- those that pass a test, placed
+module _ (test : ℕ → ℕ → Bool) where
+  placed_by : (b : Bool) (e : Entry) (es : List Entry) → placed (cond b (e ∷ es) es) ≡ cond b (put (placed es) e) (placed es)
+  placed_by b e es = case (both_ways b) (λ h. rw h (placed_more e es)) (λ h. rw h)
 
-    pub passed_end : placed (only test (from m)) ≡ blank
-    passed_end = rw (from_end, only_nil test) placed_none
-
-    pub passed_before : (j : ℕ) → 0 < j → j ≤ m → placed (only test (from (j - 1)))
-        ≡ cond (test (entry_in part (j - 1)).joint (entry_in part (j - 1)).other)
-        (put (placed (only test (from j))) (entry_in part (j - 1))) (placed (only test (from j)))
-    passed_before j some inside =
-        rw (from_before j some inside, only_more test (entry_in part (j - 1)) (from j))
-        (placed_by (test (entry_in part (j - 1)).joint (entry_in part (j - 1)).other) (entry_in part (j - 1)) (only test (from j)))
+  pub passed_more : (e : Entry) (es : List Entry) → placed (only test (e ∷ es)) ≡ cond (test e.joint e.other) (put (placed (only test es)) e) (placed (only test es))
+  passed_more e es = rw (only_more test e es) (placed_by (test e.joint e.other) e (only test es))
 
 -- the square of all entries tells which of them are returned
-pub returned_across : (m : ℕ) (part : List ℕ) → Inside m part → (listed t : List (List ℕ)) → listed ≡ placed (entries_from m 0 part)
-    → t ≡ placed (only (λ a b. ltb 0 (at listed b a)) (entries_from m 0 part)) → t ≡ placed (mutual_entries (entries_from m 0 part))
-returned_across m part inside listed t all h =
-    let es : List Entry = entries_from m 0 part in
-    h ∙ ap placed (only_agree (λ a b. ltb 0 (at listed b a)) (returned es) es (λ j l. rw (all, placed_bands es fit (entry_of es j).other (entry_of es j).joint)))
-  where
-    fit : Each Fits (entries_from m 0 part)
-    fit j l = let k : j < m = rw (length_entries m 0 part) at l in rw (entry_at m part j k) (inside.1 j k)
+pub returned_across : (entries : List (List ℕ)) → Inside entries → (listed t : List (List ℕ)) → listed ≡ placed (entries_in entries)
+    → t ≡ placed (only (λ a b. ltb 0 (at listed b a)) (entries_in entries)) → t ≡ placed (mutual_entries (entries_in entries))
+returned_across entries inside listed t all h =
+    let es : List Entry = entries_in entries in
+    h ∙ ap placed (only_agree (λ a b. ltb 0 (at listed b a)) (returned es) es (λ j l. rw (all, placed_bands es inside (entry_of es j).other (entry_of es j).joint)))

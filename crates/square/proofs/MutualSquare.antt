@@ -15,9 +15,10 @@ use Rattle.square.specs.Mutual.{returned, mutual_entries, mutual_band}
 use Rattle.square.specs.Claims.{MutualPlaces, MutualPromise}
 use Rattle.square.proofs.Only.{only_each, only_band}
 use Rattle.square.proofs.Bands.{band_inside, band_itself, band_small}
-use Rattle.square.proofs.Placed.{Fits, placed_rows, placed_row, placed_bands}
+use Rattle.square.specs.Inside.{Fits}
+use Rattle.square.proofs.Placed.{placed_rows, placed_row, placed_bands}
 
-sound_fits : (n : ℕ) (es : List Entry) → n ≤ 128 → Each (Sound n) es → Each Fits es
+pub sound_fits : (n : ℕ) (es : List Entry) → n ≤ 128 → Each (Sound n) es → Each Fits es
 sound_fits n es few each j l = let e = each j l in (omega arith, omega arith)
 
 pub mutual_places : MutualPlaces

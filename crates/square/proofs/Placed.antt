@@ -10,6 +10,7 @@ use Rattle.sections.specs.Entries.{band_in}
 use Rattle.sections.specs.Claims.{Each}
 use Rattle.sections.proofs.Places.{here_or_not}
 use Rattle.sections.proofs.BandIn.{band_here, band_elsewhere}
+use Rattle.square.specs.Inside.{Fits}
 use Rattle.square.specs.Square.{at, put, blank, placed}
 use Rattle.square.proofs.Only.{band_nil}
 use Rattle.square.proofs.PutOnePlace.{put_here, put_elsewhere, put_rows, put_row}
@@ -48,10 +49,6 @@ placed_rows (e ∷ es) = rw placed_more (put_rows (placed es) e ∙ placed_rows 
 pub placed_row : (es : List Entry) (a : ℕ) → a < 128 → length (get_or (placed es) a []) ≡ 128
 placed_row [] a l = rw placed_none (blank_row 128 128 a l)
 placed_row (e ∷ es) a l = rw placed_more (put_row (placed es) e a ∙ placed_row es a l)
-
--- an entry that has its place in the square
-abbrev pub Fits : Entry → Type 0
-Fits e = (e.joint < 128) × (e.other < 128)
 
 pub placed_bands : (es : List Entry) → Each Fits es → (a b : ℕ) → at (placed es) a b ≡ band_in es a b
 placed_bands [] fit a b = rw (placed_none, band_nil a b) (zero_square 128 128 a b)

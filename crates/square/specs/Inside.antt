@@ -1,8 +1,12 @@
 -- What filling a square asks of entries.
-use Rattle.std.specs.Prelude.{ℕ, ◌*◌, ◌≤◌, ◌<◌, List, length}
-use Rattle.sections.specs.Entries.{entry_width, entry_in}
+use Rattle.std.specs.Prelude.{ℕ, ◌<◌, List}
+use Rattle.sections.specs.declared.Entry.{Entry}
+use Rattle.sections.specs.Entries.{entries_in}
+use Rattle.sections.specs.Claims.{Each}
 
--- a part begins with m entries, and each has its place in the square
-abbrev pub Inside : ℕ → List ℕ → Type 0
-Inside m part =
-    ((m < 65536) × (entry_width * m ≤ length part)) × ((j : ℕ) → j < m → ((entry_in part j).joint < 128) × ((entry_in part j).other < 128))
+-- an entry has its place in the square; each of some chunks of three bytes has
+abbrev pub Fits : Entry → Type 0
+Fits e = (e.joint < 128) × (e.other < 128)
+
+abbrev pub Inside : List (List ℕ) → Type 0
+Inside entries = Each Fits (entries_in entries)

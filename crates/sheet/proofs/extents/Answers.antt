@@ -1,20 +1,22 @@
 -- Each way out of `extents` is a law of its own; the places are named where a fact is first known.
-use Rattle.std.proofs.Common.{rules, ◌≡◌, List, ℕ, ◌+◌, ◌*◌, ◌≤◌, length, drop, Err, refl, sym, ap, ◌∙◌}
+use Rattle.std.proofs.Common.{rules, ◌≡◌, List, ℕ, ◌+◌, ◌*◌, ◌≤◌, ◌<◌, length, drop, Err, refl, sym, ap, ◌∙◌}
 use native.Mathlib.Omega.{arith}
+use lib.ListN.{length-drop}
 use Rattle.base.proofs.Places.{rest_is}
 use Rattle.refusals.specs.declared.Refusal.TheVariants.{SheetCutShort, TooManyJoints}
 use Rattle.refusals.specs.Numbers.{answered}
 use Rattle.refusals.proofs.Numbers.{answered_refused, value_answered, refusal_answered, some_answered}
 use Rattle.sections.specs.Labels.{label_width, labels_fault}
+use Rattle.sections.proofs.LabelRule.{labels_rule}
 use Rattle.sections.proofs.Numbers.{labels_is_fault}
 use Rattle.parents.specs.Parents.{extent_fault}
 use Rattle.parents.proofs.ThirdLaws.{extent_is_fault}
 use Rattle.sheet.specs.Format.{joints, labels_part, rank_count, rank_start, rank_end, third}
 use Rattle.sheet.specs.Refusals.{extents_fault}
 use Rattle.sheet.specs.Readings.{parts_of}
-use Rattle.sheet.proofs.SheetLaws.{accepted_as, no_joints_lem, many_joints, bad_labels, no_count, cut_short, by_third}
+use Rattle.sheet.proofs.SheetLaws.{two_bytes, accepted_as, no_joints_lem, many_joints, bad_labels, no_count, cut_short, by_third}
 use Rattle.sheet.proofs.extents.Goals as goal
-use Rattle.sheet.proofs.extents.Goals.{After-read_labels, After-count_at-m, After-parents_extent, Else-sheet-start, Else-sheet-end, In_ok-n, In_ok-size}
+use Rattle.sheet.proofs.extents.Goals.{After-read_labels, After-from-m, After-parents_extent, Else-sheet-end, In_ok-n, In_ok-size}
 
 -- WHERE THE JOINTS ARE FEW: the sheet, and what is known of it
 abbrev sheet : In_ok-n → List ℕ
@@ -41,23 +43,37 @@ labels_read c =
     value_answered _ _ _ (labels_is_fault (joints (sheet at.In_ok-n)) (labels_part (sheet at.In_ok-n))) (sym (labels_are at.After-read_labels) ∙ c.in_ok-size.was)
 
 -- WHERE THE ENTRIES ARE COUNTED
-counted : (c : Else-sheet-start) → let s = sheet (goal.at.Else-sheet-start c).In_ok-n in rank_start s ≤ length s
-counted c = rw ((labels_read (goal.at.Else-sheet-start c).In_ok-size).1) c.if-sheet-start.false
+reached : (c : In_ok-size) → 1 + c.in_ok-size.size ≤ length (sheet (goal.at.In_ok-size c).In_ok-n)
+reached c =
+    let s = sheet (goal.at.In_ok-size c).In_ok-n in
+    let (good, size) = labels_read c in
+    let long = ((labels_rule (joints s) (labels_part s)).0 good).long in
+    let n = some (goal.at.In_ok-size c).In_ok-n in
+    omega (arith, length-drop 1 s, n)
 
-count_is : (c : After-count_at-m) → c.count_at-m.result ≡ rank_count (sheet (goal.at.After-count_at-m c).In_ok-n)
-count_is c = rw ((labels_read (goal.at.After-count_at-m c).In_ok-size).1) c.count_at-m.ensures.value
+counted : (c : After-from-m) → let s = sheet (goal.at.After-from-m c).In_ok-n in rank_start s ≤ length s
+counted c =
+    let at = goal.at.After-from-m c in
+    let s = sheet at.In_ok-n in
+    omega (arith, (labels_read at.In_ok-size).1, c.in-Some.ensures.cases.enough, ap length (rest_is (1 + c.in_ok-size.size) s), length-drop (1 + c.in_ok-size.size) s)
+
+count_is : (c : After-from-m) → c.from-m.result ≡ rank_count (sheet (goal.at.After-from-m c).In_ok-n)
+count_is c =
+    let at = goal.at.After-from-m c in
+    rw ((labels_read at.In_ok-size).1)
+    (c.from-m.ensures ∙ two_bytes (sheet at.In_ok-n) (1 + c.in_ok-size.size) c.in-Some.bytes.now _ c.in-Some.ensures.cases.same c.from_le_bytes.ensures)
 
 abbrev whole : Else-sheet-end → List ℕ
 whole c = sheet (goal.at.Else-sheet-end c).In_ok-n
 
 -- where they end, as the code has it
 abbrev end : Else-sheet-end → ℕ
-end c = 1 + c.in_ok-size.size + 2 + 3 * c.count_at-m.result
+end c = 1 + c.in_ok-size.size + 2 + 3 * c.from-m.result
 
 end_is : (c : Else-sheet-end) → end c ≡ rank_end (whole c)
 end_is c =
     let at = goal.at.Else-sheet-end c in
-    let size = (labels_read at.In_ok-size).1 in let count = count_is at.After-count_at-m in omega arith
+    let size = (labels_read at.In_ok-size).1 in let count = count_is at.After-from-m in omega arith
 
 reaches : (c : Else-sheet-end) → rank_end (whole c) ≤ length (whole c)
 reaches c = let e = end_is c in omega (arith, c.if-sheet-end.false)
@@ -73,7 +89,7 @@ extent_is c =
 decided : (c : Else-sheet-end) (k : ℕ) → extent_fault (third (whole c)) ≡ k → extents_fault (whole c) ≡ k
 decided c =
     let at = goal.at.Else-sheet-end c in
-    by_third (whole c) (some at.In_ok-n) (few at.In_ok-n) (labels_read at.In_ok-size).0 (counted at.Else-sheet-start) (reaches c)
+    by_third (whole c) (some at.In_ok-n) (few at.In_ok-n) (labels_read at.In_ok-size).0 (counted at.After-from-m) (reaches c)
 
 pub returns-then-sheet-eq0 : goal.returns-then-sheet-eq0
 returns-then-sheet-eq0 c =
@@ -100,15 +116,24 @@ pub overflow_add-count : goal.overflow_add-count
 overflow_add-count c = let e = (labels_read c).1 in let f = few (goal.at.overflow_add-count c).In_ok-n in omega arith
 
 pub overflow_add-start : goal.overflow_add-start
-overflow_add-start c = let e = (labels_read c).1 in let f = few (goal.at.overflow_add-start c).In_ok-n in omega arith
+overflow_add-start c =
+    let at = goal.at.overflow_add-start c in let e = (labels_read at.In_ok-size).1 in let f = few at.In_ok-n in omega arith
 
-pub returns-then-sheet-start : goal.returns-then-sheet-start
-returns-then-sheet-start c =
-    let at = goal.at.returns-then-sheet-start c in
+pub slice_bounds-first_chunk-count : goal.slice_bounds-first_chunk-count
+slice_bounds-first_chunk-count c = reached (goal.at.slice_bounds-first_chunk-count c).In_ok-size
+
+pub slice_bounds-first_chunk-start : goal.slice_bounds-first_chunk-start
+slice_bounds-first_chunk-start c = reached (goal.at.slice_bounds-first_chunk-start c).In_ok-size
+
+pub returns-in_default : goal.returns-in_default
+returns-in_default c =
+    let at = goal.at.returns-in_default c in
     let s = c.args.sheet.now in
     let (good, size) = labels_read at.In_ok-size in
+    let k = 1 + c.in_ok-size.size in
+    let short : length s < rank_start s = omega (arith, reached at.In_ok-size, size, c.in_default.ensures.cases, ap length (rest_is k s), length-drop k s) in
     answered_refused (parts_of s) (extents_fault s) SheetCutShort
-    (sym (no_count s (some at.In_ok-n) (few at.In_ok-n) good (rw size c.if-sheet-start.true)))
+    (sym (no_count s (some at.In_ok-n) (few at.In_ok-n) good short))
 
 pub returns-then-sheet-end : goal.returns-then-sheet-end
 returns-then-sheet-end c =
@@ -116,7 +141,7 @@ returns-then-sheet-end c =
     let s = c.args.sheet.now in
     let (good, size) = labels_read at.In_ok-size in
     answered_refused (parts_of s) (extents_fault s) SheetCutShort
-    (sym (cut_short s (some at.In_ok-n) (few at.In_ok-n) good (counted at.Else-sheet-start) (rw (← count_is at.After-count_at-m, size) c.if-sheet-end.true)))
+    (sym (cut_short s (some at.In_ok-n) (few at.In_ok-n) good (counted at.After-from-m) (rw (← count_is at.After-from-m, size) c.if-sheet-end.true)))
 
 pub slice_bounds-parents_extent-count : goal.slice_bounds-parents_extent-count
 slice_bounds-parents_extent-count c = omega (arith, c.if-sheet-end.false)
@@ -139,4 +164,4 @@ returns c =
     let (good, size) = labels_read at.In_ok-size in
     let start : 1 + c.in_ok-size.size + 2 ≡ rank_start s = omega arith in
     let (clean, long) = value_answered _ _ _ (extent_is_fault (third s)) (sym (extent_is at.After-parents_extent) ∙ c.in_ok-parents_extent.was) in
-    accepted_as s (count at.In_ok-n) (count_is at.After-count_at-m) start (end_is at.Else-sheet-end) (decided at.Else-sheet-end 0 clean)
+    accepted_as s (count at.In_ok-n) (count_is at.After-from-m) start (end_is at.Else-sheet-end) (decided at.Else-sheet-end 0 clean)

@@ -1,25 +1,25 @@
 -- Another count, or the parents decide.
-use Rattle.std.proofs.Common.{◌≡◌, sym, ◌∙◌}
+use Rattle.std.proofs.Common.{◌≡◌, length, sym, ◌∙◌}
 use Rattle.refusals.proofs.Numbers.{answered_none, answered_refused}
 use Rattle.refusals.specs.declared.Refusal.TheVariants.{BadParents}
 use Rattle.parents.specs.Parents.{counted_fault}
 use Rattle.parents.proofs.ThirdLaws.{other_count, by_parents}
 use Rattle.parents.proofs.parent_section.read_parents.Goals as goal
-use Rattle.parents.proofs.parent_section.read_parents.Goals.{then-count-n-via-then-count-n, then-count-n-via-else-count-n+then-some_bad}
+use Rattle.parents.proofs.parent_section.read_parents.Goals.{then-part-n-via-then-part-n, then-part-n-via-else-part-n+then-some_bad}
 
-pub returns-then-count-n : goal.returns-then-count-n
-returns-then-count-n c =
+pub returns-then-part-n : goal.returns-then-part-n
+returns-then-part-n c =
     let a = c.args in
-    let bad : counted_fault a.n a.count a.part.now ≡ 18 =
-    elim c.then-count-n.branch [
-      | then-count-n-via-then-count-n w ↦ other_count _ _ _ w.if-count-n.true
-      | then-count-n-via-else-count-n+then-some_bad w ↦
-          by_parents _ _ _ w.if-count-n.false (sym w.some_bad.ensures ∙ w.if-some_bad.true)
+    let bad : counted_fault a.n (length a.part.now) a.part.now ≡ 18 =
+    elim c.then-part-n.branch [
+      | then-part-n-via-then-part-n w ↦ other_count _ _ _ w.if-part-n.true
+      | then-part-n-via-else-part-n+then-some_bad w ↦
+          by_parents _ _ _ w.if-part-n.false (sym w.some_bad.ensures ∙ w.if-some_bad.true)
     ] in
-    answered_refused _ (counted_fault a.n a.count a.part.now) BadParents (sym bad)
+    answered_refused _ (counted_fault a.n (length a.part.now) a.part.now) BadParents (sym bad)
 
 pub returns : goal.returns
 returns c =
     let a = c.args in
-    answered_none _ (counted_fault a.n a.count a.part.now)
-    (by_parents _ _ _ c.if-count-n.false (sym c.some_bad.ensures ∙ c.if-some_bad.false))
+    answered_none _ (counted_fault a.n (length a.part.now) a.part.now)
+    (by_parents _ _ _ c.if-part-n.false (sym c.some_bad.ensures ∙ c.if-some_bad.false))

@@ -1,5 +1,6 @@
-use Rattle.std.proofs.Common.{rules, ◌≡◌, ℕ, ◌*◌, sym, ◌∙◌}
+use Rattle.std.proofs.Common.{rules, ◌≡◌, ℕ, List, length, sym, ◌∙◌}
 use native.Mathlib.Omega.{arith}
+use Rattle.std.specs.List.{concat}
 use Rattle.base.proofs.Faults.{below_zero, below_next, below_hit}
 use Rattle.refusals.proofs.Numbers.{answered_refused, value_answered, refusal_answered, some_answered}
 use Rattle.refusals.specs.Numbers.{number_of}
@@ -12,13 +13,15 @@ loop-j-init c = below_zero _
 
 pub returns-in_err-judge_entry : goal.returns-in_err-judge_entry
 returns-in_err-judge_entry c =
-    let fault : ℕ → ℕ = entry_fault c.args.n c.args.part.now in
+    let m : ℕ = length c.args.entries.now in
+    let bytes : List ℕ = concat c.args.entries.now in
+    let fault : ℕ → ℕ = entry_fault c.args.n bytes in
     let told = sym c.judge_entry.ensures ∙ c.in_err-judge_entry.was in
-    let first = below_hit c.args.m fault c.loop-j.j (omega arith) c.loop-j.invariant (some_answered _ _ _ told) in
-    let e : number_of c.in_err-judge_entry.field-0.0 ≡ entries_fault c.args.m c.args.n c.args.part.now = refusal_answered _ _ _ told ∙ first in
-    search (rules, answered_refused (3 * c.args.m) (entries_fault c.args.m c.args.n c.args.part.now) c.in_err-judge_entry.field-0.0 e)
+    let first = below_hit m fault c.loop-j.j (omega arith) c.loop-j.invariant (some_answered _ _ _ told) in
+    let e : number_of c.in_err-judge_entry.field-0.0 ≡ entries_fault m c.args.n bytes = refusal_answered _ _ _ told ∙ first in
+    search (rules, answered_refused (tt {0}) (entries_fault m c.args.n bytes) c.in_err-judge_entry.field-0.0 e)
 
 pub loop-j-preserved : goal.loop-j-preserved
 loop-j-preserved c =
     let told = sym c.judge_entry.ensures ∙ c.in_ok-judge_entry.was in
-    below_next _ _ c.loop-j.invariant (value_answered _ _ _ (entry_is_fault c.args.n c.args.part.now c.loop-j.j) told).0
+    below_next _ _ c.loop-j.invariant (value_answered _ _ _ (entry_is_fault c.args.n (concat c.args.entries.now) c.loop-j.j) told).0
