@@ -44,7 +44,7 @@ use Rattle.calls.proofs.Answers.{unwritten}
 
 -- AN ANSWER with the buffer beside it, by what the call says
 module _ (c : Says) (out : List ℕ) where
-  abbrev pub SettledSo : Result End Refusal → List ℕ → Type 0
+  abbrev pub SettledSo : Result (End ℕ) Refusal → List ℕ → Type 0
   SettledSo r after = (r ≡ settled_by c) × (after ≡ left_by c out)
 
   abbrev pub ShortenedSo : Result (Option ℕ) Refusal → List ℕ → Type 0
@@ -126,7 +126,7 @@ sheet_refused s later r h =
     e ∙ sym (fault_stops (sheet_fault s) later (λ z. omega (arith, e, z, number_some r)))
 
 module _ (s : List ℕ) (c : Says) where
-  pub settled_accepted : (out : List ℕ) {r : Result End Refusal} {after : List ℕ} → sheet_fault s ≡ 0 → SettledSo c out r after → SettledSo (on_sheet s c) out r after
+  pub settled_accepted : (out : List ℕ) {r : Result (End ℕ) Refusal} {after : List ℕ} → sheet_fault s ≡ 0 → SettledSo c out r after → SettledSo (on_sheet s c) out r after
   settled_accepted out f h = rw (fault_passes (sheet_fault s) c.faults f) h
 
   pub shortened_accepted : (out : List ℕ) {r : Result (Option ℕ) Refusal} {after : List ℕ} → sheet_fault s ≡ 0 → ShortenedSo c out r after → ShortenedSo (on_sheet s c) out r after
@@ -168,7 +168,7 @@ module _ (s : List ℕ) (n m : ℕ) (t : Square) (known : ReadWith s n m t) wher
       rw (known.square_is, known.joints_are, known.entries_are)
       (let all = all_listed s known.faultless in let half = pairs_half s known.faultless in omega arith, (accepted_sizes s known.faultless).most_entries)
 
-  pub settle_read : (cs out : List ℕ) {r : Result End Refusal} {after : List ℕ} → SettledSo (settling n t cs out) out r after
+  pub settle_read : (cs out : List ℕ) {r : Result (End ℕ) Refusal} {after : List ℕ} → SettledSo (settling n t cs out) out r after
       → SettledSo (settle_call s cs out) out r after
   settle_read cs out h = settled_accepted s (settling (joints s) (square_of s) cs out) out known.faultless (rw (known.square_is, known.joints_are) at h)
 

@@ -16,6 +16,7 @@ use Rattle.roommates.specs.declared.Stage.TheVariants.{Proposing, Cutting, NoneO
 use Rattle.matching.specs.Matchings.{pair_count}
 use Rattle.calls.specs.declared.End.{End}
 use Rattle.calls.specs.declared.Counts.{Counts}
+use Rattle.calls.specs.declared.Phase.{Phase}
 use Rattle.calls.specs.declared.Phase.TheVariants as P
 use Rattle.calls.specs.declared.End.TheVariants as E
 
@@ -70,16 +71,21 @@ settle_call s cs out = on_sheet s (settle_says (joints s) (square_of s) cs (leng
 abbrev pub shorten_call : List ℕ → List ℕ → List ℕ → Says
 shorten_call s cs out = on_sheet s (shorten_says (joints s) (rank_count s) (square_of s) cs (length out))
 
+-- a phase's number
+abbrev pub phase_number : Phase → ℕ
+phase_number P.One = 1
+phase_number P.Two = 2
+
 -- THE ANSWER: the first refusal, or by the verdict and the count. A working that was not refused has ended, so the answer to one
 -- that goes on is never given.
-abbrev pub ended_as : Stage → ℕ → End
+abbrev pub ended_as : Stage → ℕ → End ℕ
 ended_as Proposing count = E.None P.Two
 ended_as Cutting count = E.None P.Two
 ended_as NoneOne count = E.None P.One
 ended_as NoneTwo count = E.None P.Two
 ended_as Paired count = E.Paired count
 
-abbrev pub settled_as : ℕ → Stage → ℕ → Result End Refusal
+abbrev pub settled_as : ℕ → Stage → ℕ → Result (End ℕ) Refusal
 settled_as fault verdict count = answered fault (ended_as verdict count)
 
 -- shorten's none is always in phase one
@@ -93,7 +99,7 @@ listed_as Paired count = Some count
 abbrev pub shortened_as : ℕ → Stage → ℕ → Result (Option ℕ) Refusal
 shortened_as fault verdict count = answered fault (listed_as verdict count)
 
-abbrev pub settled_by : Says → Result End Refusal
+abbrev pub settled_by : Says → Result (End ℕ) Refusal
 settled_by c = settled_as (first_fault c.faults) c.verdict c.count
 
 abbrev pub shortened_by : Says → Result (Option ℕ) Refusal
@@ -115,7 +121,7 @@ abbrev pub left_by : Says → List ℕ → List ℕ
 left_by c out = left_as (first_fault c.faults) c.verdict c.bytes out
 
 -- the calls over a sheet: what they answer, and the buffer after them
-abbrev pub settle_answer : List ℕ → List ℕ → List ℕ → Result End Refusal
+abbrev pub settle_answer : List ℕ → List ℕ → List ℕ → Result (End ℕ) Refusal
 settle_answer s cs out = settled_by (settle_call s cs out)
 
 abbrev pub settle_bytes : List ℕ → List ℕ → List ℕ → List ℕ

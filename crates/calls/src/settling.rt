@@ -27,7 +27,11 @@ fn write_pairing(n: Joints, lists: &[[u8; 128]; 128], out: &mut [u8]) -> u32
 
 // Settles rankings: none with its phase, or a pairing, whose partner bytes begin the buffer. A working that was not refused has ended, so
 // none of one that goes on is never answered.
-pub fn settle_lists(rankings: &Rankings, choices: &[u8], out: &mut [u8]) -> Result<End, Refusal>
+pub fn settle_lists(
+    rankings: &Rankings,
+    choices: &[u8],
+    out: &mut [u8],
+) -> Result<End<u32>, Refusal>
     ensures value { result ≡ settled_by (settle_says rankings.now.joints.count rankings.now.bands choices.now (length out.old)) }
     ensures out_after { out.new ≡ left_by (settle_says rankings.now.joints.count rankings.now.bands choices.now (length out.old)) out.old }
 {
@@ -50,7 +54,7 @@ pub fn settle_lists(rankings: &Rankings, choices: &[u8], out: &mut [u8]) -> Resu
 }
 
 // Settles a sheet: none with its phase, or a pairing, whose partner bytes begin the buffer.
-pub fn settle(sheet: &[u8], choices: &[u8], out: &mut [u8]) -> Result<End, Refusal>
+pub fn settle(sheet: &[u8], choices: &[u8], out: &mut [u8]) -> Result<End<u32>, Refusal>
     ensures value { result ≡ settle_answer sheet.now choices.now out.old }
     ensures out_after { out.new ≡ settle_bytes sheet.now choices.now out.old }
 {

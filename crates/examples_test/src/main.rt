@@ -4,7 +4,8 @@
 
 use arrayvec::ArrayVec;
 use bvh::import;
-use quote::{Quoted, quote};
+use calls::End;
+use quote::quote;
 use skeleton::follow;
 use std::rt::Files;
 use std::{fs, io};
@@ -46,14 +47,6 @@ fn is_listed(sheet: &[u8], expected: &[u8]) -> bool {
     let mut text = [0u8; 4400];
     let length = listing::list_sheet(sheet, &mut text);
     &text[..length] == expected
-}
-
-// The sum that is payable by a tariff, without choices.
-fn payable(sheet: &[u8], tariff: &[u8], rebate: u32) -> Option<u64> {
-    match quote(sheet, b"", tariff, rebate) {
-        Ok(Quoted::Payable(sum)) => Some(sum),
-        _ => None,
-    }
 }
 
 // How many pairs do not follow, and the lowest of their numbers; none and 0 where all follow.
@@ -106,7 +99,7 @@ fn main(rt: HostRuntime) -> io::Result<()> {
         &rt,
         "fox.sheet",
         "shop.tariff",
-        |sheet, tariff| payable(sheet, tariff, 250) == Some(3510),
+        |sheet, tariff| quote(sheet, b"", tariff, 250) == Ok(End::Paired(3510)),
     );
     println!(rt; "fox.sheet by shop.tariff: {priced}")?;
     for (sheet, pairing, due) in FOLLOWED {

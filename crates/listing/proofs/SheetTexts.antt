@@ -33,13 +33,13 @@ use Rattle.std.specs.Prelude.{Result, Ok, Err}
 use Rattle.refusals.specs.declared.Refusal.{Refusal}
 use Rattle.refusals.specs.Numbers.{number_of, answered}
 use Rattle.refusals.proofs.Numbers.{IsFault, number_some, answered_refused}
-use Rattle.calls.specs.Calls.{settle_says, settle_call, ended_as, left_by, partners_of, settle_answer}
+use Rattle.calls.specs.Calls.{phase_number, settle_says, settle_call, ended_as, left_by, partners_of, settle_answer}
 use Rattle.calls.proofs.Answers.{choice_is_fault, faults_are, pairing_written}
 use Rattle.writing.specs.Written.{Wrote, over}
 use Rattle.writing.proofs.Writings.{front_wrote}
 use Rattle.writing.proofs.Decimals.{number_line_short}
 use Rattle.listing.specs.Text.{none_word, refused_word, pairing_text, none_text, refused_text, Labelled}
-use Rattle.listing.specs.Sheets.{phase_number, answer_text, buffer, answer, lists_text, text_or, sheet_text}
+use Rattle.listing.specs.Sheets.{answer_text, buffer, answer, lists_text, text_or, sheet_text}
 use Rattle.listing.specs.Claims.{TextIsSettles, TextShort}
 use Rattle.listing.proofs.LineLaws.{labels_short, pairing_short}
 
@@ -139,7 +139,7 @@ lists_short : (s : List ℕ) (n : ℕ) (t : Square) → n ≤ 128 → length (li
 unfolding lists_text
 lists_short s n t few = go (answer n t)
   where
-    go : (a : Result End Refusal) → length (answer_text (label_of s) (partners_of n t []) a) ≤ 4400
+    go : (a : Result (End ℕ) Refusal) → length (answer_text (label_of s) (partners_of n t []) a) ≤ 4400
     go (Ok (E.Paired k)) =
         let size : length (partners_of n t []) ≡ n = pairing_length n (settles_by n t []).work_is.lists in
         let h = pairing_short (label_of s) (labels_short s 1) (partners_of n t []) (omega arith) in

@@ -6,19 +6,13 @@ use Rattle.sheet.specs.Format.{joints, label_of}
 use Rattle.sheet.specs.Refusals.{sheet_fault}
 use Rattle.sheet.specs.Square.{square_of}
 use Rattle.roommates.specs.Lists.{Square}
-use Rattle.calls.specs.declared.Phase.{Phase}
-use Rattle.calls.specs.declared.Phase.TheVariants as P
 use Rattle.calls.specs.declared.End.{End}
 use Rattle.calls.specs.declared.End.TheVariants as E
-use Rattle.calls.specs.Calls.{settle_says, settled_by, partners_of}
+use Rattle.calls.specs.Calls.{phase_number, settle_says, settled_by, partners_of}
 use Rattle.listing.specs.Text.{pairing_text, none_text, refused_text}
 
-abbrev pub phase_number : Phase → ℕ
-phase_number P.One = 1
-phase_number P.Two = 2
-
 -- settle's answer in words, with the pairing m if there is one
-abbrev pub answer_text : (ℕ → List ℕ) → List ℕ → Result End Refusal → List ℕ
+abbrev pub answer_text : (ℕ → List ℕ) → List ℕ → Result (End ℕ) Refusal → List ℕ
 answer_text label m (Ok (E.Paired count)) = pairing_text label m
 answer_text label m (Ok (E.None phase)) = none_text (phase_number phase)
 answer_text label m (Err refusal) = refused_text (number_of refusal)
@@ -28,7 +22,7 @@ answer_text label m (Err refusal) = refused_text (number_of refusal)
 abbrev pub buffer : List ℕ
 buffer = replicate 128 0
 
-abbrev pub answer : ℕ → Square → Result End Refusal
+abbrev pub answer : ℕ → Square → Result (End ℕ) Refusal
 answer n t = settled_by (settle_says n t [] (length buffer))
 
 unfoldable pub lists_text : (ℕ → List ℕ) → ℕ → Square → List ℕ

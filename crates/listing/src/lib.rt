@@ -6,9 +6,10 @@ mod lines;
 ghost use Rattle.std.specs.Prelude.{◌≡◌, ◌≤◌, length};
 ghost use Rattle.refusals.specs.Numbers.{number_of};
 ghost use Rattle.sections.specs.Labels.{label_at};
+ghost use Rattle.calls.specs.Calls.{phase_number};
 ghost use Rattle.writing.specs.Written.{Wrote, over};
 ghost use Rattle.listing.specs.Text.{Labelled, Listable, pairing_text, none_text, refused_text};
-ghost use Rattle.listing.specs.Sheets.{phase_number, lists_text, sheet_text};
+ghost use Rattle.listing.specs.Sheets.{lists_text, sheet_text};
 
 use calls::settling::settle_lists;
 use calls::{End, Phase};
@@ -31,22 +32,12 @@ fn write_pairing(opened: Opened, partners: &[u8], out: &mut [u8]) -> usize
     lines::write_alone(opened, partners, third, out)
 }
 
-// Here, since only the text has the phases' numbers.
-fn phase_number(phase: Phase) -> usize
-    ensures { result ≡ phase_number phase }
-{
-    match phase {
-        Phase::One => 1,
-        Phase::Two => 2,
-    }
-}
-
 // No pairing, with the phase.
 fn write_none(phase: Phase, out: &mut [u8]) -> usize
     requires { 4400 ≤ length out.old }
     ensures { Wrote out.old 0 (none_text (phase_number phase)) out.new result }
 {
-    write_number_line(b"none phase ", phase_number(phase), 0, out)
+    write_number_line(b"none phase ", usize::from(u8::from(phase)), 0, out)
 }
 
 // A refusal, with its number.

@@ -17,7 +17,6 @@ use Rattle.skeleton.specs.Answers.{answer_astray, follow_of}
 use Rattle.skeleton.proofs.FollowsKept.{follows_kept}
 use Rattle.bvh.specs.Answers.{import_of}
 use Rattle.bvh.proofs.ImportKept.{import_kept}
-use Rattle.quote.specs.declared.Quoted.TheVariants as Q
 use Rattle.quote.specs.Quotes.{quote_answer}
 use Rattle.quote.proofs.QuotesKept.{quotes_kept}
 
@@ -46,5 +45,5 @@ pub proposals_small : (whole : Bool) (s cs : List ℕ) → (counts_of whole s cs
 proposals_small whole s cs = omega (arith, ((calls_keep s).counts_small whole cs).0)
 
 -- for a tariff of bytes
-pub sum_small : (s cs t : List ℕ) (rebate k : ℕ) → ((i : ℕ) → get_or t i 0 < 256) → quote_answer s cs t rebate ≡ Ok (Q.Payable k) → k ≤ 64 * 4294967295
+pub sum_small : (s cs t : List ℕ) (rebate k : ℕ) → ((i : ℕ) → get_or t i 0 < 256) → quote_answer s cs t rebate ≡ Ok (E.Paired k) → k ≤ 64 * 4294967295
 sum_small s cs t rebate k bytes e = ((quotes_kept s t rebate).sum cs k e).small bytes

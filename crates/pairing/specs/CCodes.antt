@@ -2,12 +2,10 @@
 use Rattle.std.specs.Prelude.{ℕ, ◌+◌, ◌*◌, ◌^◌, Option, Some, None, Result, Ok, Err}
 use Rattle.refusals.specs.declared.Refusal.{Refusal}
 use Rattle.refusals.specs.Numbers.{number_of, fault_of}
-use Rattle.calls.specs.declared.Phase.TheVariants as P
 use Rattle.calls.specs.declared.End.{End}
 use Rattle.calls.specs.declared.End.TheVariants as E
 use Rattle.calls.specs.declared.Counts.{Counts}
-use Rattle.quote.specs.declared.Quoted.{Quoted}
-use Rattle.quote.specs.declared.Quoted.TheVariants as Q
+use Rattle.calls.specs.Calls.{phase_number}
 use Rattle.skeleton.specs.declared.Strays.{Strays}
 
 -- The version of the interface: raised by each landing that changes the meaning or the signature of a call.
@@ -18,11 +16,10 @@ version = 5
 abbrev pub packed : ℕ → ℕ → ℕ → ℕ
 packed number verdict count = number + 256 * verdict + 65536 * count
 
--- Verdict 1 is none in phase one, 2 none in phase two, 3 a pairing or lists; beside a refusal it is 0.
-abbrev pub settled_code : Result End Refusal → ℕ
+-- Verdict 1 is none in phase one, 2 none in phase two: the phase's number; 3 is a pairing or lists. Beside a refusal it is 0.
+abbrev pub settled_code : Result (End ℕ) Refusal → ℕ
 settled_code (Err refusal) = packed (number_of refusal) 0 0
-settled_code (Ok (E.None P.One)) = packed 0 1 0
-settled_code (Ok (E.None P.Two)) = packed 0 2 0
+settled_code (Ok (E.None phase)) = packed 0 (phase_number phase) 0
 settled_code (Ok (E.Paired count)) = packed 0 3 count
 
 abbrev pub shortened_code : Result (Option ℕ) Refusal → ℕ
@@ -40,11 +37,8 @@ abbrev pub counts_code : Counts → ℕ
 counts_code c = fault_of c.refusal + 65536 * c.proposals + 2 ^ 32 * c.cuts
 
 -- Verdict 3 is a sum; none has no sum.
-abbrev pub quoted_code : Result Quoted Refusal → ℕ
-quoted_code (Err refusal) = packed (number_of refusal) 0 0
-quoted_code (Ok (Q.None P.One)) = packed 0 1 0
-quoted_code (Ok (Q.None P.Two)) = packed 0 2 0
-quoted_code (Ok (Q.Payable sum)) = packed 0 3 sum
+abbrev pub quoted_code : Result (End ℕ) Refusal → ℕ
+quoted_code answer = settled_code answer
 
 -- The number of pairs that do not follow in the verdict's place, and the lowest of their numbers in the count's; both are 0 where all follow.
 abbrev pub followed_code : Result (Option Strays) Refusal → ℕ

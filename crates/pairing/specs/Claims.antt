@@ -2,7 +2,7 @@
 use Rattle.std.specs.Prelude.{◌≡◌, ℕ, ◌+◌, ◌*◌, ◌/◌, ◌%◌, ◌<◌, Ok, Err}
 use Rattle.calls.specs.declared.Counts.{Counts}
 use Rattle.calls.specs.declared.Phase.TheVariants as P
-use Rattle.quote.specs.declared.Quoted.TheVariants as Q
+use Rattle.calls.specs.declared.End.TheVariants as E
 use Rattle.skeleton.specs.Answers.{answer_all, answer_astray}
 use Rattle.refusals.specs.declared.Refusal.{Refusal}
 use Rattle.refusals.specs.Numbers.{number_of, fault_of}
@@ -18,9 +18,9 @@ PartsReadBack = (number verdict count : ℕ) → number < 256 → verdict < 256
 -- mirror_quote's numbers: a refusal alone; none in phase one or two; a sum behind 3 in the verdict's place
 pub record QuoteNumbers : Type 0 where
   pub refused : (r : Refusal) → quoted_code (Err r) ≡ number_of r
-  pub none_one : quoted_code (Ok (Q.None P.One)) ≡ 256
-  pub none_two : quoted_code (Ok (Q.None P.Two)) ≡ 512
-  pub payable : (sum : ℕ) → quoted_code (Ok (Q.Payable sum)) ≡ 768 + 65536 * sum
+  pub none_one : quoted_code (Ok (E.None P.One)) ≡ 256
+  pub none_two : quoted_code (Ok (E.None P.Two)) ≡ 512
+  pub payable : (sum : ℕ) → quoted_code (Ok (E.Paired sum)) ≡ 768 + 65536 * sum
 
 -- mirror_follow's numbers: a refusal alone; 0 where all pairs follow; else how many do not, and the lowest of their numbers
 pub record FollowNumbers : Type 0 where

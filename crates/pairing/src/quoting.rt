@@ -4,24 +4,23 @@ ghost use Rattle.quote.specs.Quotes.{quote_answer};
 ghost use Rattle.pairing.specs.CCodes.{quoted_code};
 
 use crate::number;
-use calls::Phase;
-use quote::Quoted;
+use calls::End;
 use refusals::Refusal;
+use tariff::Cents;
 
 // What a verdict and a sum weigh in a number of 64 bits, beside the refusal's.
 const VERDICT: u64 = 256;
 
 const SUM: u64 = 65536;
 
-fn quoted_code(answer: Result<Quoted, Refusal>) -> u64
-    requires { (k : ℕ) → answer ≡ Ok (Quoted.Payable k) → k ≤ 64 * 4294967295 }
+fn quoted_code(answer: Result<End<Cents>, Refusal>) -> u64
+    requires { (k : ℕ) → answer ≡ Ok (End.Paired k) → k ≤ 64 * 4294967295 }
     ensures { result ≡ quoted_code answer }
 {
     match answer {
         Err(refusal) => u64::from(number(refusal)),
-        Ok(Quoted::None(Phase::One)) => VERDICT,
-        Ok(Quoted::None(Phase::Two)) => 2 * VERDICT,
-        Ok(Quoted::Payable(sum)) => 3 * VERDICT + SUM * sum,
+        Ok(End::None(phase)) => VERDICT * u64::from(u8::from(phase)),
+        Ok(End::Paired(sum)) => 3 * VERDICT + SUM * sum,
     }
 }
 

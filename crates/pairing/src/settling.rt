@@ -4,17 +4,16 @@ ghost use Rattle.calls.specs.Calls.{settle_answer, settle_bytes};
 ghost use Rattle.pairing.specs.CCodes.{settled_code};
 
 use crate::{COUNT, VERDICT, number};
-use calls::{End, Phase};
+use calls::End;
 use refusals::Refusal;
 
-fn settled_code(answer: Result<End, Refusal>) -> u32
+fn settled_code(answer: Result<End<u32>, Refusal>) -> u32
     requires { (k : ℕ) → answer ≡ Ok (End.Paired k) → k < 65536 }
     ensures { result ≡ settled_code answer }
 {
     match answer {
         Err(refusal) => number(refusal),
-        Ok(End::None(Phase::One)) => VERDICT,
-        Ok(End::None(Phase::Two)) => 2 * VERDICT,
+        Ok(End::None(phase)) => VERDICT * u32::from(u8::from(phase)),
         Ok(End::Paired(count)) => 3 * VERDICT + COUNT * count,
     }
 }

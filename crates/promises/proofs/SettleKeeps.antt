@@ -135,7 +135,7 @@ module _ (s cs out : List ℕ) where
   settle_unwritten k h = let r = (says k).0 h in unwritten fault (verdict_on s cs) _ out (omega (arith, r.0, r.1))
 
   -- a call that ends with x
-  module _ (x : End) (h : settle_answer s cs out ≡ Ok x) where
+  module _ (x : End ℕ) (h : settle_answer s cs out ≡ Ok x) where
     none_refused : fault ≡ 0
     none_refused = settle_unrefused (ap fault_in h)
 

@@ -122,7 +122,7 @@ sheet_one_sided = sheet_of ((only 2 ∷ only 1 ∷ []) ∷ (only 0 ∷ []) ∷ [
 -- A ROW: settle or shorten with its choices and buffer, its answer and the buffer after it; check with a pairing, and its answer; the counts
 -- of settle's working (true) or shorten's: the number of a refused choice, proposals, cuts.
 pub data Row : Type 0 where
-  settle_row : (sheet choices before : List ℕ) → Result End Refusal → (after : List ℕ) → Row
+  settle_row : (sheet choices before : List ℕ) → Result (End ℕ) Refusal → (after : List ℕ) → Row
   shorten_row : (sheet choices before : List ℕ) → Result (Option ℕ) Refusal → (after : List ℕ) → Row
   check_row : (sheet pairing : List ℕ) → Result (Option ℕ) Refusal → Row
   counts_row : (whole : Bool) (sheet choices : List ℕ) → (number made cut : ℕ) → Row

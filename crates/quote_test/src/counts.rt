@@ -1,6 +1,6 @@
 // What the program counts, and prints at its end.
-use crate::{Answer, Quote};
-use rules::Phase;
+use crate::Answer;
+use calls::{End, Phase};
 use std::fmt;
 use tally::{Comparisons, add};
 
@@ -39,9 +39,9 @@ pub struct Counts {
 fn number_of(answer: Answer) -> u64 {
     match answer {
         Err(number) => u64::from(number),
-        Ok(Quote::None(Phase::One)) => 101,
-        Ok(Quote::None(Phase::Two)) => 102,
-        Ok(Quote::Payable(sum)) => sum.wrapping_add(1000),
+        Ok(End::None(Phase::One)) => 101,
+        Ok(End::None(Phase::Two)) => 102,
+        Ok(End::Paired(sum)) => sum.wrapping_add(1000),
     }
 }
 
@@ -49,9 +49,9 @@ impl Counts {
     // Counts an answer by its kind.
     pub fn note_kind(&mut self, said: Answer) {
         match said {
-            Ok(Quote::Payable(_)) => add(&mut self.payable, 1),
-            Ok(Quote::None(Phase::One)) => add(&mut self.none_one, 1),
-            Ok(Quote::None(Phase::Two)) => add(&mut self.none_two, 1),
+            Ok(End::Paired(_)) => add(&mut self.payable, 1),
+            Ok(End::None(Phase::One)) => add(&mut self.none_one, 1),
+            Ok(End::None(Phase::Two)) => add(&mut self.none_two, 1),
             Err(number) => {
                 if let Some(count) = self.refused.get_mut(usize::from(number.wrapping_sub(1))) {
                     add(count, 1);

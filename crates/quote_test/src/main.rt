@@ -11,10 +11,11 @@ mod walks;
 ghost use Rattle.std.specs.Prelude.{◌<◌, ◌≤◌};
 
 use arrayvec::ArrayVec;
+use calls::{End, Phase};
 use counts::Counts;
 use pairs::sheet_of_pairs;
-use quote::{Quoted, quote};
-use rules::{Call, Phase, Said, Work};
+use quote::quote;
+use rules::{Call, Said, Work};
 use samples::{next, put, varied_sheet};
 use std::io;
 use tariffs::{Tariff, drawn_tariff, is_in_form};
@@ -25,23 +26,19 @@ const NUMBERS: u32 = 520;
 
 const ROUNDS: u32 = 6144;
 
-// What a quote says that is not refused.
-#[derive(Clone, Copy, PartialEq, Eq)]
-pub enum Quote {
-    None(Phase),
-    Payable(u64),
-}
-
-// That, or the number of a refusal.
-pub type Answer = Result<Quote, u8>;
+// None or a price, or the number of a refusal.
+pub type Answer = Result<End<u64>, u8>;
 
 // What quote answers.
 fn quoted(sheet: &[u8], choices: &[u8], tariff: &[u8], rebate: u32) -> Answer {
-    match quote(sheet, choices, tariff, rebate) {
-        Err(refusal) => Err(u8::from(refusal)),
-        Ok(Quoted::None(calls::Phase::One)) => Ok(Quote::None(Phase::One)),
-        Ok(Quoted::None(calls::Phase::Two)) => Ok(Quote::None(Phase::Two)),
-        Ok(Quoted::Payable(sum)) => Ok(Quote::Payable(sum)),
+    quote(sheet, choices, tariff, rebate).map_err(u8::from)
+}
+
+// The phase that the rules name.
+fn phase_of(phase: rules::Phase) -> Phase {
+    match phase {
+        rules::Phase::One => Phase::One,
+        rules::Phase::Two => Phase::Two,
     }
 }
 
@@ -54,8 +51,8 @@ fn due(tariff: &Tariff, rebate: u32, working: Result<Said, u8>) -> Answer {
         return Err(17);
     }
     match working? {
-        Said::Paired(pairs) => Ok(Quote::Payable(prices::payable(tariff, pairs % 65, rebate))),
-        Said::None(phase) => Ok(Quote::None(phase)),
+        Said::Paired(pairs) => Ok(End::Paired(prices::payable(tariff, pairs % 65, rebate))),
+        Said::None(phase) => Ok(End::None(phase_of(phase))),
         // No end of settle's.
         Said::Lists(_) => Err(0),
     }

@@ -1,5 +1,6 @@
 -- Laws of a tariff's form and of its prices, and what is promised of them.
 pub mod FormLaws
+pub mod StepChunks
 pub mod TariffRule
 pub mod PriceLaws
 pub mod SumsKept
