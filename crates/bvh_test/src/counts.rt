@@ -55,7 +55,7 @@ impl fmt::Display for Sums {
     }
 }
 
-#[derive(Clone, Copy, Default)]
+#[derive(Default, Drop)]
 pub struct Counts {
     pub comparisons: Comparisons,
     changed: Sums,

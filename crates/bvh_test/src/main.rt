@@ -48,13 +48,7 @@ fn imported(text: &[u8], out: &mut [u8]) -> Result<usize, u8> {
 }
 
 // One text: the answer, and each byte of the buffer.
-fn try_text(
-    rt: &impl Print,
-    counts: &mut Counts,
-    part: Part,
-    number: u32,
-    text: &[u8],
-) -> io::Result<()> {
+fn try_text(counts: &mut Counts, part: Part, number: u32, text: &[u8]) {
     let machine = Machine::behind(text);
     let mut sheet: ArrayVec<u8, 2180> = ArrayVec::new();
     machine.put_sheet(&mut sheet);
@@ -73,9 +67,11 @@ fn try_text(
         filled(&[])
     };
     counts.note(part, said, &machine.parents);
-    counts
-        .comparisons
-        .compare(rt, 1, number, said == due && out == left)
+    counts.comparisons.compare(
+        "the answer or the buffer",
+        number,
+        said == due && out == left,
+    );
 }
 
 // The change k of the one text: at each word each of 40 words in its place, each before it, and the word left out.
@@ -126,7 +122,7 @@ fn recipe_of(k: u32) -> (Part, Recipe) {
     (part, recipe)
 }
 
-fn try_number(rt: &impl Print, counts: &mut Counts, k: u32) -> io::Result<()> {
+fn try_number(counts: &mut Counts, k: u32) {
     let (part, recipe) = recipe_of(k);
     let mut text = Text::new();
     put_text(&mut text, recipe);
@@ -134,13 +130,13 @@ fn try_number(rt: &impl Print, counts: &mut Counts, k: u32) -> io::Result<()> {
         Change::Cut(place) => place.min(text.len()),
         _ => text.len(),
     };
-    try_text(rt, counts, part, k, &text[..end])
+    try_text(counts, part, k, &text[..end]);
 }
 
 fn main(rt: HostRuntime) -> io::Result<()> {
     let mut counts = Counts::default();
     for k in 0..TEXTS {
-        try_number(&rt, &mut counts, k)?;
+        try_number(&mut counts, k);
     }
     println!(rt; "{counts}")
 }

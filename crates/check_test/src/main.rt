@@ -15,7 +15,7 @@ use tally::{Comparisons, add};
 const ROUNDS: u32 = 140;
 
 // How many vectors of n bytes there are, each byte one of 0 to 5 and 255.
-const VECTORS: [u32; 7] = [1, 7, 49, 343, 2401, 16807, 117649];
+const VECTORS: [u32; 9] = [1, 7, 49, 343, 2401, 16807, 117649, 823543, 5764801];
 
 // Pairings offered to row g's sheet.
 const OFFERED: [(&str, &[u8]); 7] = [
@@ -43,7 +43,7 @@ const ROW_G: Bands = [
 // A verdict, or the number of a refusal.
 type Answer = Result<Verdict, u8>;
 
-#[derive(Clone, Copy, Default)]
+#[derive(Default, Drop)]
 struct Counts {
     comparisons: Comparisons,
     // Vectors that held, were refused, were blocked.
@@ -121,24 +121,18 @@ fn vector(v: u32, n: usize) -> Pairing
     m
 }
 
-// Compares check with the reference on every vector for a sheet of n joints.
-fn try_vectors(
-    rt: &impl Print,
-    counts: &mut Counts,
-    round: u32,
-    sheet: &Sheet,
-    n: usize,
-) -> io::Result<()>
-    requires { n < 7 }
-{
+// Compares check with the reference on every vector for a sheet.
+fn try_vectors(counts: &mut Counts, round: u32, sheet: &Sheet) {
+    let n = sheet.n;
     for v in 0..VECTORS[n] {
         let m = vector(v, n);
         let said = checked(&sheet.bytes, &m[..n]);
         counts.note(said);
         let due = worth(&sheet.bands, &m).ok_or(10);
-        counts.comparisons.compare(rt, 1, round, said == due)?;
+        counts
+            .comparisons
+            .compare("the verdict", round, said == due);
     }
-    Ok(())
 }
 
 // Three times out of four two joints list each other, each in a band from 1 to 3; on two sheets of three some do not list in return.
@@ -152,15 +146,13 @@ fn style(round: u32) -> Style {
 }
 
 // Random sheets of 0 to 6 joints.
-fn try_rounds(rt: &impl Print, counts: &mut Counts) -> io::Result<()> {
+fn try_rounds(counts: &mut Counts) {
     for round in 0..ROUNDS {
-        let n = (round % 7) as usize;
-        let sheet = drawn_sheet(n, 61 * round, style(round));
+        let sheet = drawn_sheet((round % 7) as usize, 61 * round, style(round));
         add(&mut counts.sheets, 1);
         add(&mut counts.one_sided, u32::from(is_one_sided(&sheet.bands)));
-        try_vectors(rt, counts, round, &sheet, n)?;
+        try_vectors(counts, round, &sheet);
     }
-    Ok(())
 }
 
 // The sheet of 128 joints with two entries: a and b list each other.
@@ -176,7 +168,7 @@ fn sheet_of_pair(labels: &LongSheet, a: usize, b: usize) -> LongSheet
 
 // Every pair of 128 joints: by the higher joint, then by the lower. It blocks where nobody is paired, and its number is how many pairs came
 // before it.
-fn try_pairs(rt: &impl Print, counts: &mut Counts) -> io::Result<()> {
+fn try_pairs(counts: &mut Counts) {
     let labels = long_labels(128);
     for b in 0..128 {
         for a in 0..b {
@@ -184,16 +176,17 @@ fn try_pairs(rt: &impl Print, counts: &mut Counts) -> io::Result<()> {
             let before = counts.pairs;
             add(&mut counts.pairs, 1);
             let agrees = said == Ok(Verdict::Blocked(before));
-            counts.comparisons.compare(rt, 2, before, agrees)?;
+            counts
+                .comparisons
+                .compare("the number of a pair", before, agrees);
         }
     }
-    Ok(())
 }
 
 fn main(rt: HostRuntime) -> io::Result<()> {
     let mut counts = Counts::default();
-    try_rounds(&rt, &mut counts)?;
-    try_pairs(&rt, &mut counts)?;
+    try_rounds(&mut counts);
+    try_pairs(&mut counts);
     println!(rt; "{}", counts.comparisons)?;
     println!(rt;
         "answers (500 holds, a refusal's number, 1000 and the number of the lowest pair that blocks)"

@@ -49,12 +49,11 @@ fn is_listed(sheet: &[u8], expected: &[u8]) -> bool {
     &text[..length] == expected
 }
 
-// How many pairs do not follow, and the lowest of their numbers; none and 0 where all follow.
-fn strays(sheet: &[u8], pairing: &[u8]) -> Option<(u32, u32)> {
+// Does follow answer that all pairs follow, or how many do not and the lowest of their numbers?
+fn is_followed_so(sheet: &[u8], pairing: &[u8], due: Option<(u32, u32)>) -> bool {
     match follow(sheet, pairing) {
-        Err(_) => None,
-        Ok(None) => Some((0, 0)),
-        Ok(Some(strays)) => Some((strays.pairs, strays.lowest)),
+        Err(_) => false,
+        Ok(strays) => strays.map(|strays| (strays.pairs, strays.lowest)) == due,
     }
 }
 
@@ -80,9 +79,9 @@ const LISTED: [(&str, &str); 8] = [
 
 // The fox's pairs are each of a left joint and its right one, so all follow. Where a thumb is mirrored to a toe, their parents are a wrist and
 // an ankle: joints 5 and 8, and 6 and 7, whose pair is number 7 × 6 ÷ 2 + 6.
-const FOLLOWED: [(&str, &str, (u32, u32)); 2] = [
-    ("fox.sheet", "fox.pairing", (0, 0)),
-    ("thumb.sheet", "thumb-to-toe.pairing", (2, 27)),
+const FOLLOWED: [(&str, &str, Option<(u32, u32)>); 2] = [
+    ("fox.sheet", "fox.pairing", None),
+    ("thumb.sheet", "thumb-to-toe.pairing", Some((2, 27))),
 ];
 
 const IMPORTED: [(&str, &str); 2] = [
@@ -107,7 +106,7 @@ fn main(rt: HostRuntime) -> io::Result<()> {
             &rt,
             sheet,
             pairing,
-            |sheet, pairing| strays(sheet, pairing) == Some(due),
+            |sheet, pairing| is_followed_so(sheet, pairing, due),
         );
         println!(rt; "{sheet} with {pairing}: {followed}")?;
     }

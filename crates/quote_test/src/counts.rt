@@ -24,7 +24,7 @@ impl fmt::Display for Part {
     }
 }
 
-#[derive(Clone, Copy, Default)]
+#[derive(Default, Drop)]
 pub struct Counts {
     pub comparisons: Comparisons,
     pub pairs: Part,

@@ -18,7 +18,7 @@ use quote::quote;
 use rules::{Call, Said, Work};
 use samples::{next, put, varied_sheet};
 use std::io;
-use tariffs::{Tariff, drawn_tariff, is_in_form};
+use tariffs::{Form, Tariff, drawn_tariff, is_in_form};
 use walks::drawn_walk;
 
 // Quotes of a number of pairs, eight for each; and of random sheets.
@@ -59,62 +59,94 @@ fn due(tariff: &Tariff, rebate: u32, working: Result<Said, u8>) -> Answer {
 }
 
 // A quote of so many pairs, without choices; of eight, one at the highest price.
-fn try_number(rt: &impl Print, counts: &mut Counts, round: u32) -> io::Result<()>
+fn try_number(counts: &mut Counts, round: u32)
     requires { round < 520 }
 {
     let sheet = sheet_of_pairs((round / 8) as usize);
     let x = next(7 * round + 3);
     let rebate = next(x) % 10001;
-    let tariff = drawn_tariff(x, if round % 8 == 0 { 9 } else { 10 });
+    let form = if round % 8 == 0 {
+        Form::Highest
+    } else {
+        Form::Whole
+    };
+    let tariff = drawn_tariff(x, form);
     let said = quoted(&sheet, b"", &tariff, rebate);
     counts.pairs.note(said);
     let expected = due(&tariff, rebate, Ok(Said::Paired(round / 8)));
-    counts.comparisons.compare(rt, 1, round, said == expected)
+    counts
+        .comparisons
+        .compare("the quote of a number of pairs", round, said == expected);
 }
 
-// By a draw, cuts a byte from a sheet, or puts two zeros after it: a count of no parents, and a byte after them. Returns the refusal that is
-// then due before any other.
-fn damage(sheet: &mut ArrayVec<u8, 384>, draw: u32) -> Option<u8> {
-    match draw {
-        0 => {
-            let _ = sheet.pop();
-            Some(1)
+// What is wrong with a sheet: it is a byte short, or two zeros stand behind it, a count of no parents and a byte after them.
+#[derive(Clone, Copy)]
+enum Damage {
+    Short,
+    Long,
+    Nothing,
+}
+
+impl Damage {
+    // Of sixteen sheets each is wrong with one.
+    fn drawn(x: u32) -> Damage {
+        match x % 16 {
+            0 => Damage::Short,
+            1 => Damage::Long,
+            _ => Damage::Nothing,
         }
-        1 => {
-            put(sheet, &[0, 0]);
-            Some(8)
+    }
+
+    fn put_in(self, sheet: &mut ArrayVec<u8, 384>) {
+        match self {
+            Damage::Short => {
+                let _ = sheet.pop();
+            }
+            Damage::Long => put(sheet, &[0, 0]),
+            Damage::Nothing => {}
         }
-        _ => None,
+    }
+
+    // The refusal that is due before any other.
+    fn refused(self) -> Option<u8> {
+        match self {
+            Damage::Short => Some(1),
+            Damage::Long => Some(8),
+            Damage::Nothing => None,
+        }
     }
 }
 
 // One quote of a random sheet.
-fn try_round(rt: &impl Print, counts: &mut Counts, round: u32) -> io::Result<()> {
+fn try_round(counts: &mut Counts, round: u32) {
     let a = next(97 * (round % 65536) + 11);
     let b = next(a);
     let c = next(b);
     let mut sheet = varied_sheet(round, 181 * (round % 65536) % 65537);
-    let walk = drawn_walk(&Work::fresh(Call::Settle, sheet.n, sheet.bands), b);
-    let refused = damage(&mut sheet.bytes, a / 32 % 16);
-    let tariff = drawn_tariff(c, a % 32);
+    let walk = drawn_walk(&Work::fresh(Call::Settle, &sheet), b);
+    let damage = Damage::drawn(a / 32);
+    damage.put_in(&mut sheet.bytes);
+    let tariff = drawn_tariff(c, Form::drawn(a));
     let rebate = tariffs::rebate(next(c));
     let said = quoted(&sheet.bytes, &walk.list, &tariff, rebate);
     counts.sheets.note(said);
     counts.note_kind(said);
-    let expected = match refused {
+    let expected = match damage.refused() {
         Some(number) => Err(number),
         None => due(&tariff, rebate, walk.end),
     };
-    counts.comparisons.compare(rt, 2, round, said == expected)
+    counts
+        .comparisons
+        .compare("the quote of a random sheet", round, said == expected);
 }
 
 fn main(rt: HostRuntime) -> io::Result<()> {
     let mut counts = Counts::default();
     for round in 0..NUMBERS {
-        try_number(&rt, &mut counts, round)?;
+        try_number(&mut counts, round);
     }
     for round in 0..ROUNDS {
-        try_round(&rt, &mut counts, round)?;
+        try_round(&mut counts, round);
     }
     println!(rt; "{counts}")
 }

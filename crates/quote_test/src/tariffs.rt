@@ -74,10 +74,43 @@ fn before_last(bytes: &Bytes, count: usize) -> u8
     if count == 1 { 2 } else { bytes[5 * count - 9] }
 }
 
-// By a draw, a tariff of 1 to 16 steps as it should be, or: empty; no step; seventeen steps; a byte too few; a byte too many; any number for
-// a step to begin at; any byte anywhere; the last step from where the one before it begins; the count of another number of steps; one step
-// at the highest price. A draw and no enum, since nothing else reads it.
-pub fn drawn_tariff(seed: u32, draw: u32) -> Tariff {
+// A tariff of 1 to 16 steps as it should be, or: empty; no step; seventeen steps; a byte too few; a byte too many; any number for a step to
+// begin at; any byte anywhere; the last step from where the one before it begins; any count of steps; one step at the highest price.
+#[derive(Clone, Copy)]
+pub enum Form {
+    Whole,
+    Empty,
+    NoStep,
+    SeventeenSteps,
+    Short,
+    Long,
+    AnyBeginning,
+    AnyByte,
+    Repeated,
+    AnyCount,
+    Highest,
+}
+
+impl Form {
+    // Of 32 tariffs each of the other forms has one.
+    pub fn drawn(x: u32) -> Form {
+        match x % 32 {
+            0 => Form::Empty,
+            1 => Form::NoStep,
+            2 => Form::SeventeenSteps,
+            3 => Form::Short,
+            4 => Form::Long,
+            5 => Form::AnyBeginning,
+            6 => Form::AnyByte,
+            7 => Form::Repeated,
+            8 => Form::AnyCount,
+            9 => Form::Highest,
+            _ => Form::Whole,
+        }
+    }
+}
+
+pub fn drawn_tariff(seed: u32, form: Form) -> Tariff {
     let count = (seed % 65537 / 12 % 16) as usize + 1;
     let size = 5 * count + 1;
     let mut bytes = drawn_steps(seed);
@@ -85,18 +118,18 @@ pub fn drawn_tariff(seed: u32, draw: u32) -> Tariff {
     let again = before_last(&bytes, count);
     let x = next(seed) as usize;
     let byte = (x / 256 % 256) as u8;
-    match draw {
-        0 => ArrayVec::new(),
-        1 => with_byte(bytes, 0, 0, 1),
-        2 => with_byte(bytes, 0, 17, 86),
-        3 => first(bytes, size - 1),
-        4 => with_byte(bytes, 87, 0, size + 1),
-        5 => with_byte(bytes, 5 * (x % 16) + 1, byte, size),
-        6 => with_byte(bytes, x % 81, byte, size),
-        7 => with_byte(bytes, size - 5, again, size),
-        8 => with_byte(bytes, 0, (x % 16) as u8 + 1, size),
-        9 => highest(),
-        _ => first(bytes, size),
+    match form {
+        Form::Whole => first(bytes, size),
+        Form::Empty => ArrayVec::new(),
+        Form::NoStep => with_byte(bytes, 0, 0, 1),
+        Form::SeventeenSteps => with_byte(bytes, 0, 17, 86),
+        Form::Short => first(bytes, size - 1),
+        Form::Long => with_byte(bytes, 87, 0, size + 1),
+        Form::AnyBeginning => with_byte(bytes, 5 * (x % 16) + 1, byte, size),
+        Form::AnyByte => with_byte(bytes, x % 81, byte, size),
+        Form::Repeated => with_byte(bytes, size - 5, again, size),
+        Form::AnyCount => with_byte(bytes, 0, (x % 16) as u8 + 1, size),
+        Form::Highest => highest(),
     }
 }
 

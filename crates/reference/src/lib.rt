@@ -27,47 +27,60 @@ pub enum Verdict {
 // b × (b − 1) ÷ 2 for each b.
 const FIRST: [u8; 8] = [0, 0, 1, 3, 6, 10, 15, 21];
 
-// Do a and b list each other?
-fn are_listed(bands: &Bands, a: usize, b: usize) -> bool
-    requires { (a < 8) × (b < 8) }
-{
-    bands[a][b] != 0 && bands[b][a] != 0
+// A pairing offered to a sheet.
+#[derive(Clone, Copy)]
+struct Offered<'a> {
+    bands: &'a Bands,
+    pairing: &'a Pairing,
 }
 
-// Is a unpaired, or paired with a joint that has it as its partner, where the two list each other?
-fn is_fit(bands: &Bands, m: &Pairing, a: usize) -> bool
-    requires { a < 8 }
-{
-    let p = usize::from(m[a]);
-    if p < 8 {
-        usize::from(m[p]) == a && are_listed(bands, a, p)
-    } else {
-        m[a] == NONE
+impl Offered<'_> {
+    // Do a and b list each other?
+    fn are_listed(&self, a: usize, b: usize) -> bool
+        requires { (a < 8) × (b < 8) }
+    {
+        self.bands[a][b] != 0 && self.bands[b][a] != 0
+    }
+
+    // Is a unpaired, or paired with a joint that has it as its partner, where the two list each other?
+    fn is_fit(&self, a: usize) -> bool
+        requires { a < 8 }
+    {
+        let p = usize::from(self.pairing[a]);
+        if p < 8 {
+            usize::from(self.pairing[p]) == a && self.are_listed(a, p)
+        } else {
+            self.pairing[a] == NONE
+        }
+    }
+
+    // The band of a's partner, 255 if it is unpaired.
+    fn held(&self, a: usize) -> u8
+        requires { a < 8 }
+    {
+        let p = usize::from(self.pairing[a]);
+        self.bands[a].get(p).copied().unwrap_or(255)
+    }
+
+    // Is b on a's list, as a on b's, and not its partner, in a band no worse than its partner's?
+    fn wants(&self, a: usize, b: usize) -> bool
+        requires { (a < 8) × (b < 8) }
+    {
+        self.are_listed(a, b)
+            && usize::from(self.pairing[a]) != b
+            && self.bands[a][b] <= self.held(a)
     }
 }
 
-// The band of a's partner, 255 if it is unpaired.
-fn held(bands: &Bands, m: &Pairing, a: usize) -> u8
-    requires { a < 8 }
-{
-    bands[a].get(usize::from(m[a])).copied().unwrap_or(255)
-}
-
-// Is b on a's list, as a on b's, and not its partner, in a band no worse than its partner's?
-fn wants(bands: &Bands, m: &Pairing, a: usize, b: usize) -> bool
-    requires { (a < 8) × (b < 8) }
-{
-    are_listed(bands, a, b) && usize::from(m[a]) != b && bands[a][b] <= held(bands, m, a)
-}
-
 // None for what is no matching. Pairs come by the higher joint, then by the lower: so the first that blocks has the lowest number.
-pub fn worth(bands: &Bands, m: &Pairing) -> Option<Verdict> {
-    if !(0..8).all(|a| is_fit(bands, m, a)) {
+pub fn worth(bands: &Bands, pairing: &Pairing) -> Option<Verdict> {
+    let offered = Offered { bands, pairing };
+    if !(0..8).all(|a| offered.is_fit(a)) {
         return None;
     }
     for b in 0..8 {
         for a in 0..b {
-            if wants(bands, m, a, b) && wants(bands, m, b, a) {
+            if offered.wants(a, b) && offered.wants(b, a) {
                 return Some(Verdict::Blocked(u32::from(FIRST[b]) + a as u32));
             }
         }

@@ -42,12 +42,7 @@ pub fn fullest(table: &Table) -> Option<usize>
     ensures { IfSome result (λ a. a < 8) }
 {
     let most = table.iter().map(|row| row.count_ones()).max();
-    for a in (0..8).rev() {
-        if Some(table[a].count_ones()) == most {
-            return Some(a);
-        }
-    }
-    None
+    table.iter().rposition(|row| Some(row.count_ones()) == most)
 }
 
 // How many rows have b.

@@ -10,7 +10,7 @@ ghost use Rattle.std.specs.Prelude.{◌<◌, IfSome};
 use arrayvec::ArrayVec;
 pub use joints::any_of;
 use joints::{Set, Table, fullest, has, lowest, rows};
-use samples::{Bands, filled, put};
+use samples::{Bands, Sheet, filled, put};
 
 // Which call a working is of.
 #[derive(Clone, Copy, PartialEq, Eq)]
@@ -95,13 +95,13 @@ fn listed_of(bands: &Bands) -> Table {
 }
 
 impl Work {
-    // A fresh working. Either phase may have nothing to do.
-    pub fn fresh(call: Call, n: usize, bands: Bands) -> Work {
+    // A fresh working of a sheet. Either phase may have nothing to do.
+    pub fn fresh(call: Call, sheet: &Sheet) -> Work {
         let mut fresh = Work {
             call,
-            n,
-            bands,
-            listed: listed_of(&bands),
+            n: sheet.n,
+            bands: sheet.bands,
+            listed: listed_of(&sheet.bands),
             stands: [0; 8],
             received: 0,
             aside: 0,

@@ -1,23 +1,8 @@
-// What the program counts, and prints at its end; and the number of each comparison.
+// What the program counts, and prints at its end.
 use replay::Record;
 use rules::{Call, End, Phase, Said, Stage, Work};
 use std::fmt;
 use tally::{Comparisons, add};
-
-// What is compared.
-#[derive(Clone, Copy)]
-pub enum What {
-    // The library beside the rules: its answer, its buffer, its counts.
-    Answer = 1,
-    Buffer = 2,
-    Counts = 3,
-    // The rules beside every matching: the verdict and the pairing, and which joints are paired.
-    Verdict = 4,
-    Joints = 5,
-    // The library beside rows of document 01, whose sheets are numbered by their count of joints or their bands.
-    RowN = 6,
-    RowO = 7,
-}
 
 // What a call answers: within the rules, or refused by each of these numbers.
 #[derive(Clone, Copy, Default)]
@@ -48,7 +33,7 @@ impl fmt::Display for Answers {
     }
 }
 
-#[derive(Clone, Copy, Default)]
+#[derive(Default, Drop)]
 pub struct Counts {
     pub comparisons: Comparisons,
     pub matchings: u32,

@@ -8,7 +8,7 @@ mod rows;
 mod trying;
 
 use brute::find_stable;
-use counts::{Counts, What};
+use counts::Counts;
 use reference::{Matchings, matchings, paired};
 use rows::try_rows;
 use rules::{Call, Work};
@@ -20,10 +20,10 @@ use trying::Case;
 const ROUNDS: u32 = 3072;
 
 // One sheet. All super-stable matchings pair the same joints.
-fn try_sheet(rt: &impl Print, counts: &mut Counts, rows: &Matchings, round: u32) -> io::Result<()> {
+fn try_sheet(counts: &mut Counts, rows: &Matchings, round: u32) {
     let seed = 181 * (round % 65536) % 65537;
     let sheet = varied_sheet(round, seed);
-    let settle = Work::fresh(Call::Settle, sheet.n, sheet.bands);
+    let settle = Work::fresh(Call::Settle, &sheet);
     let end = settle.ended();
     let found = find_stable(&sheet.bands, rows, paired(&end.partners()));
     add(&mut counts.one_sided, u32::from(is_one_sided(&sheet.bands)));
@@ -33,22 +33,26 @@ fn try_sheet(rt: &impl Print, counts: &mut Counts, rows: &Matchings, round: u32)
     let case = Case {
         round,
         settle,
-        shorten: Work::fresh(Call::Shorten, sheet.n, sheet.bands),
+        shorten: Work::fresh(Call::Shorten, &sheet),
         sheet,
         stable: found.stable,
     };
-    counts.comparisons.compare(rt, What::Joints as u32, round, found.alike == found.stable)?;
-    case.try_calls(rt, counts, seed)
+    counts.comparisons.compare(
+        "which joints the rules pair",
+        round,
+        found.alike == found.stable,
+    );
+    case.try_calls(counts, seed);
 }
 
 fn main(rt: HostRuntime) -> io::Result<()> {
     let rows = matchings();
     let mut counts = Counts::default();
-    try_rows(&rt, &mut counts)?;
+    try_rows(&mut counts);
     counts.matchings = rows.len() as u32;
     counts.sheets = ROUNDS;
     for round in 0..ROUNDS {
-        try_sheet(&rt, &mut counts, &rows, round)?;
+        try_sheet(&mut counts, &rows, round);
     }
     println!(rt; "{counts}")
 }

@@ -2,12 +2,11 @@
 ghost use Rattle.std.specs.Prelude.{◌≤◌};
 
 use crate::answers::ask;
-use crate::counts::{Counts, What};
+use crate::counts::Counts;
 use reference::{Verdict, worth};
 use replay::{Choices, Record, after, longer, odd};
 use rules::{Answer, Call, End, Stage, Work, any_of};
 use samples::{Sheet, next};
-use std::io;
 
 // A sheet with its number, a fresh working of each call, and how many super-stable matchings there are.
 #[derive(Drop)]
@@ -64,88 +63,66 @@ impl Case {
         }
     }
 
-    fn compare(
-        &self,
-        rt: &impl Print,
-        counts: &mut Counts,
-        what: What,
-        agrees: bool,
-    ) -> io::Result<()> {
-        counts
-            .comparisons
-            .compare(rt, what as u32, self.round, agrees)
+    fn compare(&self, counts: &mut Counts, what: &'static str, agrees: bool) {
+        counts.comparisons.compare(what, self.round, agrees);
     }
 
     // What a call answers, and every byte of its buffer.
-    fn compare_answer(
-        &self,
-        rt: &impl Print,
-        counts: &mut Counts,
-        call: Call,
-        said: &Answer,
-        due: &Answer,
-    ) -> io::Result<()> {
+    fn compare_answer(&self, counts: &mut Counts, call: Call, said: &Answer, due: &Answer) {
         counts.note_answer(call, due.said);
-        self.compare(rt, counts, What::Answer, said.said == due.said)?;
-        self.compare(rt, counts, What::Buffer, said.out == due.out)
+        self.compare(counts, "the answer", said.said == due.said);
+        self.compare(counts, "the buffer", said.out == due.out);
     }
 
     // One call on a list, after which its working ends so.
-    fn try_call(
-        &self,
-        rt: &impl Print,
-        counts: &mut Counts,
-        list: &Choices,
-        end: &Work,
-    ) -> io::Result<()> {
+    fn try_call(&self, counts: &mut Counts, list: &Choices, end: &Work) {
         let said = ask(end.call, &self.sheet, list, 256);
         let due = end.answered();
-        self.compare_answer(rt, counts, end.call, &said, &due)?;
-        self.compare(rt, counts, What::Counts, said.counts == due.counts)
+        self.compare_answer(counts, end.call, &said, &due);
+        self.compare(counts, "the counts", said.counts == due.counts);
     }
 
     // The end of settle's working beside every matching: a pairing is super-stable, and none said only where there is no such pairing.
-    fn compare_end(&self, rt: &impl Print, counts: &mut Counts, end: &Work) -> io::Result<()> {
+    fn compare_end(&self, counts: &mut Counts, end: &Work) {
         let agrees = match end.stage {
-            Stage::Refused(_) => return Ok(()),
+            Stage::Refused(_) => return,
             Stage::Ended(End::Paired) => {
                 worth(&self.sheet.bands, &end.partners()) == Some(Verdict::Stable)
             }
             _ => self.stable == 0,
         };
-        self.compare(rt, counts, What::Verdict, agrees)
+        self.compare(counts, "the verdict of the rules", agrees);
     }
 
     // Both calls on a list.
-    fn try_walk(&self, rt: &impl Print, counts: &mut Counts, walk: &Walk) -> io::Result<()> {
+    fn try_walk(&self, counts: &mut Counts, walk: &Walk) {
         let end = walk.settle.ended();
-        self.try_call(rt, counts, &walk.list, &end)?;
-        self.compare_end(rt, counts, &end)?;
-        self.try_call(rt, counts, &walk.list, &walk.shorten.ended())
+        self.try_call(counts, &walk.list, &end);
+        self.compare_end(counts, &end);
+        self.try_call(counts, &walk.list, &walk.shorten.ended());
     }
 
     // A list that grows by records within settle's rules. Each is tried, and with any record in its place. A record that is refused is
     // tried too, and left out.
-    fn try_grown(&self, rt: &impl Print, counts: &mut Counts, seed: u32) -> io::Result<()> {
+    fn try_grown(&self, counts: &mut Counts, seed: u32) {
         let mut walk = self.start();
         let mut x = seed;
         for _ in 0..20 {
             let y = next(x);
             x = next(y);
-            self.try_walk(rt, counts, &self.with(&walk, any_record(y, self.sheet.n)))?;
+            self.try_walk(counts, &self.with(&walk, any_record(y, self.sheet.n)));
             let record = likely_record(walk.settle.allowed(), x);
             let grown = self.with(&walk, record.bytes());
-            self.try_walk(rt, counts, &grown)?;
+            self.try_walk(counts, &grown);
             if !grown.settle.is_refused() {
                 counts.note_record(record, walk.settle.stage);
                 walk = grown;
             }
         }
-        Ok(())
     }
 
     // A list of one to four records, whatever they are, and perhaps a byte more.
-    fn try_drawn(&self, rt: &impl Print, counts: &mut Counts, x: u32) -> io::Result<()> {
+    fn try_drawn(&self, counts: &mut Counts, x: u32) {
         let mut walk = self.start();
         let mut y = x;
         for _ in 0..=x % 4 {
@@ -155,35 +132,35 @@ impl Case {
         if y % 4 == 0 {
             walk = self.with_byte(&walk, any_byte(y, self.sheet.n));
         }
-        self.try_walk(rt, counts, &walk)
+        self.try_walk(counts, &walk);
     }
 
     // Buffers as long as they must be, and a byte too short, which is refused before an odd number of bytes is. Elsewhere they are longer.
-    fn try_rooms(&self, rt: &impl Print, counts: &mut Counts, fresh: &Work) -> io::Result<()> {
+    fn try_rooms(&self, counts: &mut Counts, fresh: &Work) {
         let call = fresh.call;
         let room = self.room(call);
         let said = ask(call, &self.sheet, &Choices::new(), room);
-        self.compare_answer(rt, counts, call, &said, &fresh.ended().answered())?;
+        self.compare_answer(counts, call, &said, &fresh.ended().answered());
         if room == 0 {
-            return Ok(());
+            return;
         }
         let mut refused = *fresh;
         refused.stage = Stage::Refused(9);
         let odd = longer(&Choices::new(), &[0]);
         let short = ask(call, &self.sheet, &odd, room - 1);
-        self.compare_answer(rt, counts, call, &short, &refused.answered())
+        self.compare_answer(counts, call, &short, &refused.answered());
     }
 
     // Buffers, and lists of records.
-    pub fn try_calls(&self, rt: &impl Print, counts: &mut Counts, seed: u32) -> io::Result<()> {
+    pub fn try_calls(&self, counts: &mut Counts, seed: u32) {
         let x = next(seed);
         let y = next(x);
-        self.try_rooms(rt, counts, &self.settle)?;
-        self.try_rooms(rt, counts, &self.shorten)?;
-        self.try_grown(rt, counts, x)?;
-        self.try_drawn(rt, counts, x)?;
-        self.try_grown(rt, counts, y)?;
-        self.try_drawn(rt, counts, y)
+        self.try_rooms(counts, &self.settle);
+        self.try_rooms(counts, &self.shorten);
+        self.try_grown(counts, x);
+        self.try_drawn(counts, x);
+        self.try_grown(counts, y);
+        self.try_drawn(counts, y);
     }
 }
 
@@ -195,16 +172,18 @@ fn any_byte(x: u32, n: usize) -> u8
     if n < k { 255 } else { k as u8 }
 }
 
-// Kinds of any record: of eight, three are steps, one sets a mark, two return and two are no kind.
-const KINDS: [u8; 8] = [0, 0, 0, 1, 2, 2, 3, 255];
-
-// Any record, with a joint or what is none, or a mark of 0 to 9.
+// Any record: of eight, three are steps of a joint or of what is none, one sets a mark of 0 to 9, two return to one and two are no kind.
 fn any_record(x: u32, n: usize) -> [u8; 2]
     requires { n ≤ 8 }
 {
-    let kind = KINDS[(x % 65537 / 16 % 8) as usize];
     let mark = (x % 65537 / 128 % 10) as u8;
-    [kind, if kind == 0 { any_byte(x, n) } else { mark }]
+    match x % 65537 / 16 % 8 {
+        0 | 1 | 2 => Record::Step(any_byte(x, n)).bytes(),
+        3 => Record::Mark(mark).bytes(),
+        4 | 5 => Record::Return(mark).bytes(),
+        6 => [3, mark],
+        _ => [255, mark],
+    }
 }
 
 // A record that is meant to be within settle's rules: of eight, five are steps of a joint that is allowed, two set a mark of 0 to 2 and one

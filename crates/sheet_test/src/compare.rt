@@ -92,12 +92,12 @@ fn check_holds(sheet: &[u8], bands: &Bands, claim: &str) -> bool {
     }
 }
 
-// Does the sheet read as its line says? Else the number of the refusal, 0 for an accepted sheet.
-pub fn read_as(sheet: &[u8], expected: &str, checks: &str) -> Result<(), u8> {
+// Does the sheet read as its line says? Else the number of its refusal, or None where it is accepted.
+pub fn read_as(sheet: &[u8], expected: &str, checks: &str) -> Result<(), Option<u8>> {
     let mut bands = [[MARK; 128]; 128];
     match read(sheet, &mut bands) {
         Err(number) if is_refused_so(sheet, number, &bands, expected) => Ok(()),
-        Err(number) => Err(number),
+        Err(number) => Err(Some(number)),
         Ok(parts) => {
             let is_so = is_accepted_so(parts, &bands, expected)
                 && is_followed_so(sheet, parts)
@@ -105,7 +105,7 @@ pub fn read_as(sheet: &[u8], expected: &str, checks: &str) -> Result<(), u8> {
                     || checks
                         .split(',')
                         .all(|claim| check_holds(sheet, &bands, claim)));
-            if is_so { Ok(()) } else { Err(0) }
+            if is_so { Ok(()) } else { Err(None) }
         }
     }
 }

@@ -3,7 +3,7 @@
 //   name;expected;words of the sheet;checks
 //
 // with a refusal's number, or `ok`, the parts and how many places have a band, for expected (see `build` for words, `compare` for
-// checks). A case that differs is written with the number that was read, 0 for an accepted sheet.
+// checks). A case that differs is written with what was read.
 #![tactic(auto)]
 
 mod build;
@@ -22,8 +22,12 @@ fn agrees(rt: &impl Print, line: &str) -> std::io::Result<bool> {
     put_words(&mut sheet, words);
     match read_as(&sheet, expected, checks) {
         Ok(()) => Ok(true),
-        Err(number) => {
-            println!(rt; "{line}\ndiffers: read as {number}")?;
+        Err(Some(number)) => {
+            println!(rt; "{line}\ndiffers: refused with {number}")?;
+            Ok(false)
+        }
+        Err(None) => {
+            println!(rt; "{line}\ndiffers: accepted")?;
             Ok(false)
         }
     }

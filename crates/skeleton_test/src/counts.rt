@@ -20,7 +20,7 @@ struct Sums {
     lowest: u32,
 }
 
-#[derive(Clone, Copy, Default)]
+#[derive(Default, Drop)]
 pub struct Counts {
     pub comparisons: Comparisons,
     every: Sums,

@@ -7,7 +7,6 @@ use crate::plain::Parents;
 use crate::{Case, Third, try_call};
 use reference::{MATCHINGS, Matchings, NONE, Pairing, worth};
 use samples::{Bands, next, varied_sheet};
-use std::io;
 
 const ROUNDS: u32 = 6144;
 
@@ -157,7 +156,7 @@ fn changed(mut m: Pairing, n: usize, draw: usize, x: usize) -> Pairing
 }
 
 // One call on a random sheet. The section's refusal comes first, then 10 of the pairing.
-fn try_sheet(rt: &impl Print, counts: &mut Counts, rows: &Matchings, round: u32) -> io::Result<()>
+fn try_sheet(counts: &mut Counts, rows: &Matchings, round: u32)
     requires { round < 6144 }
 {
     let sheet = varied_sheet(round, 181 * round % 65537);
@@ -173,12 +172,11 @@ fn try_sheet(rt: &impl Print, counts: &mut Counts, rows: &Matchings, round: u32)
     let is_bad = pairing.len() != n || worth(&sheet.bands, &m).is_none();
     let refused = damage.refused(n).or(if is_bad { Some(10) } else { None });
     let case = Case::new(Part::Drawn, round, &sheet, third);
-    try_call(rt, counts, &case, pairing, refused)
+    try_call(counts, &case, pairing, refused);
 }
 
-pub fn try_drawn(rt: &impl Print, counts: &mut Counts, rows: &Matchings) -> io::Result<()> {
+pub fn try_drawn(counts: &mut Counts, rows: &Matchings) {
     for round in 0..ROUNDS {
-        try_sheet(rt, counts, rows, round)?;
+        try_sheet(counts, rows, round);
     }
-    Ok(())
 }

@@ -7,7 +7,6 @@ use crate::plain::{Parents, climbed};
 use crate::{Case, Third, try_call};
 use reference::{Matchings, NONE};
 use samples::{Sheet, Style, drawn_sheet};
-use std::io;
 use tally::add;
 
 // How many skeletons of n joints there are: n!.
@@ -31,40 +30,28 @@ pub fn nth_parents(v: u32, n: usize) -> Parents
 }
 
 // Each matching that pairs none but the first n joints.
-fn try_matchings(
-    rt: &impl Print,
-    counts: &mut Counts,
-    rows: &Matchings,
-    case: &Case,
-    n: usize,
-) -> io::Result<()>
+fn try_matchings(counts: &mut Counts, rows: &Matchings, case: &Case, n: usize)
     requires { n < 7 }
 {
     for m in rows {
         if m[n..].iter().all(|p| *p == NONE) {
-            try_call(rt, counts, case, &m[..n], None)?;
+            try_call(counts, case, &m[..n], None);
         }
     }
-    Ok(())
 }
 
 // The depth of each joint.
-fn try_depths(
-    rt: &impl Print,
-    counts: &mut Counts,
-    number: u32,
-    parents: &Parents,
-    n: usize,
-) -> io::Result<()>
+fn try_depths(counts: &mut Counts, number: u32, parents: &Parents, n: usize)
     requires { (n ≤ 8) × Lower parents.now }
 {
     for joint in 0..n {
         let depth = parents::depth(parents, joint);
         add(&mut counts.depths, depth as u32);
         let agrees = depth == climbed(parents, joint);
-        counts.comparisons.compare(rt, 3, number, agrees)?;
+        counts
+            .comparisons
+            .compare("the depth of a joint", number, agrees);
     }
-    Ok(())
 }
 
 // A sheet of n joints that all list each other.
@@ -81,13 +68,7 @@ fn full_sheet(n: usize) -> Sheet
 }
 
 // Skeleton v of n joints.
-fn try_skeleton(
-    rt: &impl Print,
-    counts: &mut Counts,
-    rows: &Matchings,
-    n: usize,
-    v: u16,
-) -> io::Result<()>
+fn try_skeleton(counts: &mut Counts, rows: &Matchings, n: usize, v: u16)
     requires { n < 7 }
 {
     let parents = nth_parents(u32::from(v), n);
@@ -98,15 +79,14 @@ fn try_skeleton(
         size: n + 1,
     };
     let case = Case::new(Part::Every, number, &full_sheet(n), third);
-    try_depths(rt, counts, number, &parents, n)?;
-    try_matchings(rt, counts, rows, &case, n)
+    try_depths(counts, number, &parents, n);
+    try_matchings(counts, rows, &case, n);
 }
 
-pub fn try_every(rt: &impl Print, counts: &mut Counts, rows: &Matchings) -> io::Result<()> {
+pub fn try_every(counts: &mut Counts, rows: &Matchings) {
     for n in 0..7 {
         for v in 0..SKELETONS[n] {
-            try_skeleton(rt, counts, rows, n, v)?;
+            try_skeleton(counts, rows, n, v);
         }
     }
-    Ok(())
 }

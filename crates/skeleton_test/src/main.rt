@@ -56,31 +56,28 @@ impl Case {
 }
 
 // One call with a pairing, which may be refused. Where all pairs follow, paired joints have equal depth.
-pub fn try_call(
-    rt: &impl Print,
-    counts: &mut Counts,
-    case: &Case,
-    pairing: &[u8],
-    refused: Option<u8>,
-) -> io::Result<()> {
+pub fn try_call(counts: &mut Counts, case: &Case, pairing: &[u8], refused: Option<u8>) {
     let said = follow(&case.bytes, pairing).map_err(u8::from);
     let due = match refused {
         Some(number) => Err(number),
         None => Ok(judged(&case.parents, pairing)),
     };
     counts.note(case.part, said);
-    counts.comparisons.compare(rt, 1, case.number, said == due)?;
+    counts
+        .comparisons
+        .compare("the answer", case.number, said == due);
     if said == Ok(None) {
         let is_level = are_level(&case.parents, pairing);
-        counts.comparisons.compare(rt, 2, case.number, is_level)?;
+        counts
+            .comparisons
+            .compare("the depth of a pair", case.number, is_level);
     }
-    Ok(())
 }
 
 fn main(rt: HostRuntime) -> io::Result<()> {
     let rows = matchings();
     let mut counts = Counts::default();
-    try_every(&rt, &mut counts, &rows)?;
-    try_drawn(&rt, &mut counts, &rows)?;
+    try_every(&mut counts, &rows);
+    try_drawn(&mut counts, &rows);
     println!(rt; "{counts}")
 }

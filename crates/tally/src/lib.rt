@@ -1,35 +1,45 @@
 // The comparisons of a test program, and its sums.
 #![tactic(auto)]
 
-use std::{fmt, io};
+use arrayvec::ArrayVec;
+use std::fmt;
 
-// How many comparisons agreed, and how many did not.
+// A comparison that differs: by name, and by the number of its sheet. The name is text, since it is read by nothing but the print.
 #[derive(Clone, Copy, Default)]
+struct Difference {
+    what: &'static str,
+    sheet: u32,
+}
+
+// How many comparisons agreed, how many did not, and the first of these.
+#[derive(Default, Drop)]
 pub struct Comparisons {
     agree: u32,
     differ: u32,
+    first: ArrayVec<Difference, 64>,
 }
 
 impl Comparisons {
-    // One comparison: counted, and said if it differs. Each has a number, and each sheet.
-    pub fn compare(
-        &mut self,
-        rt: &impl Print,
-        what: u32,
-        sheet: u32,
-        agrees: bool,
-    ) -> io::Result<()> {
+    // One comparison: counted, and kept if it differs. What is kept is printed at the end, so that nothing that compares is lent a handle.
+    pub fn compare(&mut self, what: &'static str, sheet: u32, agrees: bool) {
         if agrees {
             add(&mut self.agree, 1);
-            return Ok(());
+            return;
         }
         add(&mut self.differ, 1);
-        println!(rt; "comparison {what} differs in sheet {sheet}")
+        let _ = self.first.try_push(Difference { what, sheet });
     }
 }
 
 impl fmt::Display for Comparisons {
     fn fmt<W: fmt::Write>(&self, f: &mut fmt::Formatter<W>) -> fmt::Result {
+        for difference in &self.first {
+            writeln!(
+                f,
+                "{} differs in sheet {}",
+                difference.what, difference.sheet
+            )?;
+        }
         write!(
             f,
             "comparisons, differences: {} {}",
