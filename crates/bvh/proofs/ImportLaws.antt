@@ -16,8 +16,7 @@ use Rattle.refusals.specs.declared.Refusal.{Refusal}
 use Rattle.refusals.specs.declared.Refusal.TheVariants.{OutTooShort}
 use Rattle.refusals.specs.Numbers.{number_of}
 use Rattle.refusals.proofs.Numbers.{number_some, IsFault, is_fault, answered_none, answered_refused, value_answered, refusal_answered}
-use Rattle.writing.specs.Written.{Wrote, over}
-use Rattle.writing.proofs.Writings.{front_wrote}
+use Rattle.writing.specs.Written.{over}
 use Rattle.words.specs.Words.{Words}
 use Rattle.names.specs.declared.joints.NamedJoint.{NamedJoint}
 use Rattle.names.specs.Names.{names_fault}
@@ -128,12 +127,10 @@ module _ {s rest : List ℕ} {joints : List NamedJoint} (good : names_fault (kep
       refused s out OutTooShort (read_fault out ∙ ap (λ (b : Bool). when b 9) full)
 
   pub import_written : (out after : List ℕ) (size : ℕ) → size ≡ written_size (length joints) → size ≤ length out
-      → Wrote out 0 (sheet_for (gathered joints)) after (written_size (length joints)) → Says s out (Ok size) after
+      → after ≡ over (sheet_for (gathered joints)) out → Says s out (Ok size) after
   import_written out after size e h wrote =
       let long = read_size in
       let fits = le-ltb (length out) (length (sheet_in s)) (omega arith) in
       let none : import_fault s (length out) ≡ 0 = read_fault out ∙ ap (λ (b : Bool). when b 9) fits in
-      let whole = rw (← read_sheet) at wrote in (
-        sym ((sheet_says s (length out) size).1 (none, omega arith)),
-        (front_wrote (sheet_in s) (omega arith) whole).1 ∙ sym (sheet_over (import_fault s (length out)) (sheet_in s) out none),
-      )
+      let whole : after ≡ over (sheet_in s) out = rw read_sheet wrote in
+      (sym ((sheet_says s (length out) size).1 (none, omega arith)), whole ∙ sym (sheet_over (import_fault s (length out)) (sheet_in s) out none))

@@ -7,6 +7,7 @@ ghost use Rattle.std.specs.Prelude.{◌≡◌, length};
 ghost use Rattle.bvh.specs.Answers.{import_of, import_into};
 
 use refusals::Refusal;
+use writing::Writer;
 
 // Reads the hierarchy that the text begins with, and writes its sheet at the buffer's beginning: labels, no rankings, parents. Answers the sheet's
 // length in bytes. The text is read before a byte is written, so a refusal changes none.
@@ -20,6 +21,7 @@ pub fn import(text: &[u8], out: &mut [u8]) -> Result<usize, Refusal>
     if out.len() < size {
         return Err(Refusal::OutTooShort);
     }
-    sheets::write_sheet(joints, out);
+    let mut sheet = Writer::new(out);
+    sheets::write_sheet(joints, &mut sheet);
     Ok(size)
 }

@@ -13,6 +13,7 @@ ghost use Rattle.bvh2sheet.specs.Said.{refused_line};
 use io::{read_full, write_all};
 use refusals::Refusal;
 use std::io::Read;
+use writing::Writer;
 
 const STDIN: i32 = 0;
 
@@ -50,12 +51,13 @@ fn read_text(input: &mut impl Read, text: &mut [u8]) -> usize
 }
 
 // Writes what is said of a refusal, and returns its length.
-fn write_refused(number: u8, line: &mut [u8]) -> usize
-    requires { 12 ≤ length line.old }
+fn write_refused(number: u8, line: &mut [u8; 12]) -> usize
     ensures prefix_len { IsPrefixLen result line.new }
     ensures line_after { take result line.new ≡ refused_line number }
 {
-    writing::write_number_line(b"refused ", usize::from(number), 0, line)
+    let mut said = Writer::new(line);
+    said.number_line(b"refused ", usize::from(number));
+    said.at
 }
 
 fn say_refused(refusal: Refusal) {

@@ -1,34 +1,31 @@
 // Labels as text: a label as shown, a line of one, a line of two.
-ghost use Rattle.std.specs.Prelude.{◌+◌, ◌≤◌, length};
-ghost use Rattle.writing.specs.Written.{Wrote};
+ghost use Rattle.writing.specs.Written.{HasRoom, Puts};
 ghost use Rattle.labels.specs.Lines.{label_text, label_line, pair_line};
 
 use sections::visible_run;
-use writing::{put, write_word};
+use writing::Writer;
 
-pub fn write_label(label: &[u8], at: usize, out: &mut [u8]) -> usize
-    requires { at + length (label_text label.now) ≤ length out.old }
-    ensures { Wrote out.old at (label_text label.now) out.new result }
+pub fn write_label(label: &[u8], out: &mut Writer<'_>)
+    requires { HasRoom out.old (label_text label.now) }
+    ensures { Puts out.old (label_text label.now) out.new }
 {
     let shown = visible_run(label);
-    write_word(&label[..shown], at, out)
+    out.write(&label[..shown]);
 }
 
-#[tactic(auto, using(crate::proofs::Shown::label_line_length))]
-pub fn write_label_line(label: &[u8], at: usize, out: &mut [u8]) -> usize
-    requires { at + length (label_line label.now) ≤ length out.old }
-    ensures { Wrote out.old at (label_line label.now) out.new result }
+pub fn write_label_line(label: &[u8], out: &mut Writer<'_>)
+    requires { HasRoom out.old (label_line label.now) }
+    ensures { Puts out.old (label_line label.now) out.new }
 {
-    let end = write_label(label, at, out);
-    put(b'\n', end, out)
+    write_label(label, out);
+    out.put(b'\n');
 }
 
-#[tactic(auto, using(crate::proofs::Shown::pair_line_length))]
-pub fn write_pair_line(first: &[u8], second: &[u8], at: usize, out: &mut [u8]) -> usize
-    requires { at + length (pair_line first.now second.now) ≤ length out.old }
-    ensures { Wrote out.old at (pair_line first.now second.now) out.new result }
+pub fn write_pair_line(first: &[u8], second: &[u8], out: &mut Writer<'_>)
+    requires { HasRoom out.old (pair_line first.now second.now) }
+    ensures { Puts out.old (pair_line first.now second.now) out.new }
 {
-    let end = write_label(first, at, out);
-    let next = put(b' ', end, out);
-    write_label_line(second, next, out)
+    write_label(first, out);
+    out.put(b' ');
+    write_label_line(second, out);
 }

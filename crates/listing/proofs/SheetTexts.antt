@@ -35,8 +35,6 @@ use Rattle.refusals.specs.Numbers.{number_of, answered}
 use Rattle.refusals.proofs.Numbers.{IsFault, number_some, answered_refused}
 use Rattle.calls.specs.Calls.{phase_number, settle_says, settle_call, ended_as, left_by, partners_of, settle_answer}
 use Rattle.calls.proofs.Answers.{choice_is_fault, faults_are, pairing_written}
-use Rattle.writing.specs.Written.{Wrote, over}
-use Rattle.writing.proofs.Writings.{front_wrote}
 use Rattle.writing.proofs.Decimals.{number_line_short}
 use Rattle.listing.specs.Text.{none_word, refused_word, pairing_text, none_text, refused_text, Labelled}
 use Rattle.listing.specs.Sheets.{answer_text, buffer, answer, lists_text, text_or, sheet_text}
@@ -154,8 +152,3 @@ text_short s = go (sheet_fault s) refl
     go : (f : ℕ) → sheet_fault s ≡ f → length (text_or f s) ≤ 4400
     go zero e = lists_short s (joints s) (square_of s) (accepted s e).few_joints
     go (suc k) e = let h = number_line_short refused_word (suc k) in omega arith
-
--- a sheet's text, written from the start of a buffer with room for every text
-pub sheet_wrote : (s : List ℕ) {l l₁ text : List ℕ} {r : ℕ} → sheet_text s ≡ text → 4400 ≤ length l → Wrote l 0 text l₁ r
-    → (r ≡ length (sheet_text s)) × (l₁ ≡ over (sheet_text s) l)
-sheet_wrote s e h w = let short = text_short s in front_wrote (sheet_text s) (omega arith) (rw e w)

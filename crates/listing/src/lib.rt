@@ -3,11 +3,11 @@
 
 mod lines;
 
-ghost use Rattle.std.specs.Prelude.{◌≡◌, ◌≤◌, length};
+ghost use Rattle.std.specs.Prelude.{◌≡◌, length};
 ghost use Rattle.refusals.specs.Numbers.{number_of};
 ghost use Rattle.sections.specs.Labels.{label_at};
 ghost use Rattle.calls.specs.Calls.{phase_number};
-ghost use Rattle.writing.specs.Written.{Wrote, over};
+ghost use Rattle.writing.specs.Written.{HasRoom, Puts, over};
 ghost use Rattle.listing.specs.Text.{Labelled, Listable, pairing_text, none_text, refused_text};
 ghost use Rattle.listing.specs.Sheets.{lists_text, sheet_text};
 
@@ -17,42 +17,42 @@ use labels::opened::Opened;
 use matching::count_paired;
 use refusals::Refusal;
 use sheet::Rankings;
-use writing::write_number_line;
+use writing::Writer;
 
 // A pairing of the joints whose labels lie on the sheet.
-fn write_pairing(opened: Opened, partners: &[u8], out: &mut [u8]) -> usize
+fn write_pairing(opened: Opened, partners: &[u8], out: &mut Writer<'_>)
     requires listable { Listable opened.bytes.now opened.labels opened.rankings partners.now }
-    requires in_bounds { 4400 ≤ length out.old }
-    ensures { Wrote out.old 0 (pairing_text (label_at opened.entry.bytes.now opened.entry.labels) partners.now) out.new result }
+    requires room { HasRoom out.old (pairing_text (label_at opened.bytes.now opened.labels) partners.now) }
+    ensures { Puts out.old (pairing_text (label_at opened.entry.bytes.now opened.entry.labels) partners.now) out.new }
 {
     let paired = count_paired(partners);
-    let first = write_number_line(b"pairs ", paired / 2, 0, out);
-    let second = lines::write_pairs(opened, partners, first, out);
-    let third = write_number_line(b"alone ", partners.len() - paired, second, out);
-    lines::write_alone(opened, partners, third, out)
+    out.number_line(b"pairs ", paired / 2);
+    lines::write_pairs(opened, partners, out);
+    out.number_line(b"alone ", partners.len() - paired);
+    lines::write_alone(opened, partners, out);
 }
 
 // No pairing, with the phase.
-fn write_none(phase: Phase, out: &mut [u8]) -> usize
-    requires { 4400 ≤ length out.old }
-    ensures { Wrote out.old 0 (none_text (phase_number phase)) out.new result }
+fn write_none(phase: Phase, out: &mut Writer<'_>)
+    requires { HasRoom out.old (none_text (phase_number phase)) }
+    ensures { Puts out.old (none_text (phase_number phase)) out.new }
 {
-    write_number_line(b"none phase ", usize::from(u8::from(phase)), 0, out)
+    out.number_line(b"none phase ", usize::from(u8::from(phase)));
 }
 
 // A refusal, with its number.
-fn write_refused(refusal: Refusal, out: &mut [u8]) -> usize
-    requires { 4400 ≤ length out.old }
-    ensures { Wrote out.old 0 (refused_text (number_of refusal)) out.new result }
+fn write_refused(refusal: Refusal, out: &mut Writer<'_>)
+    requires { HasRoom out.old (refused_text (number_of refusal)) }
+    ensures { Puts out.old (refused_text (number_of refusal)) out.new }
 {
-    write_number_line(b"refused ", usize::from(u8::from(refusal)), 0, out)
+    out.number_line(b"refused ", usize::from(u8::from(refusal)));
 }
 
 // Settles the rankings with no choices: the answer as text, by the labels on the sheet.
-fn list_lists(opened: Opened, rankings: &Rankings, out: &mut [u8]) -> usize
+fn list_lists(opened: Opened, rankings: &Rankings, out: &mut Writer<'_>)
     requires labelled { Labelled opened.bytes.now opened.labels opened.rankings rankings.now.joints.count }
-    requires in_bounds { 4400 ≤ length out.old }
-    ensures { Wrote out.old 0 (lists_text (label_at opened.entry.bytes.now opened.entry.labels) rankings.now.joints.count rankings.now.bands) out.new result }
+    requires room { HasRoom out.old (lists_text (label_at opened.bytes.now opened.labels) rankings.now.joints.count rankings.now.bands) }
+    ensures { Puts out.old (lists_text (label_at opened.entry.bytes.now opened.entry.labels) rankings.now.joints.count rankings.now.bands) out.new }
 {
     let n = rankings.joints.count;
     let mut partners = [0u8; 128];
@@ -63,10 +63,9 @@ fn list_lists(opened: Opened, rankings: &Rankings, out: &mut [u8]) -> usize
     }
 }
 
-// What mirror prints for a sheet, at the buffer's start. No text is longer than 4,372 bytes.
-pub fn list_sheet(sheet: &[u8], out: &mut [u8; 4400]) -> usize
-    ensures value { result ≡ length (sheet_text sheet.now) }
-    ensures out_after { out.new ≡ over (sheet_text sheet.now) out.old }
+fn write_sheet(sheet: &[u8], out: &mut Writer<'_>)
+    requires { HasRoom out.old (sheet_text sheet.now) }
+    ensures { Puts out.old (sheet_text sheet.now) out.new }
 {
     match sheet::read(sheet) {
         Ok(found) => {
@@ -75,4 +74,14 @@ pub fn list_sheet(sheet: &[u8], out: &mut [u8; 4400]) -> usize
         }
         Err(refusal) => write_refused(refusal, out),
     }
+}
+
+// What mirror prints for a sheet, at the buffer's start. No text is longer than 4,372 bytes.
+pub fn list_sheet(sheet: &[u8], out: &mut [u8; 4400]) -> usize
+    ensures value { result ≡ length (sheet_text sheet.now) }
+    ensures out_after { out.new ≡ over (sheet_text sheet.now) out.old }
+{
+    let mut text = Writer::new(out);
+    write_sheet(sheet, &mut text);
+    text.at
 }

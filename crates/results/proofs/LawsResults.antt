@@ -66,21 +66,12 @@ sum_taken (suc m) f t h =
     let more : sum_by f (take (suc m) t) ≡ sum_by f (take m t) + f (row t m) = rw add-one at (sum_by_more f t m [] (omega arith)) in
     more ∙ ap (λ (s : ℕ). s + f (row t m)) (sum_taken m f t (omega arith))
 
--- a count of entries is small, and its two bytes are the number
+-- a count of entries is small, and its two bytes and the entries are the lists
 pub count_small : (n : ℕ) (t : Square) {k : ℕ} → n ≤ 128 → k ≡ entry_count n t → k ≤ 16384
 count_small n t few e = omega (arith, entries_bound n t, mul-le-mul few few)
 
-pub count_bytes : (k : ℕ) {b : List ℕ} → k ≤ 16384 → b ≡ (k % 256) ∷ (((k / 256) % 256) ∷ []) → b ≡ (k % 256) ∷ ((k / 256) ∷ [])
-count_bytes k h e = let low : k / 256 % 256 ≡ k / 256 = omega arith in rw low at e
-
-module _ (n : ℕ) (t : Square) where
-  bytes_wrote : {k r : ℕ} {o out : List ℕ} → k ≡ entry_count n t → Wrote o 0 ((k % 256) ∷ ((k / 256) ∷ entries n t)) out r → Wrote o 0 (list_bytes n t) out r
-  unfolding list_bytes
-  bytes_wrote e w = rw e at w
-
-  -- the count's two bytes, then the entries
-  pub lists_wrote : {k r : ℕ} {o out : List ℕ} → k ≡ entry_count n t → 2 + 3 * entry_count n t ≤ length o
-      → Wrote o 0 ((k % 256) ∷ ((k / 256) ∷ entries n t)) out r → out ≡ list_bytes n t ++ drop (2 + 3 * k) o
-  lists_wrote e h w =
-      let all = (front_wrote (list_bytes n t) (omega (arith, bytes_length n t)) (bytes_wrote e w)).1 in
-      rw e (rw (bytes_length n t) at all)
+pub lists_are : (n : ℕ) (t : Square) {k : ℕ} {b : List ℕ} → k ≡ entry_count n t → k ≤ 16384 → b ≡ (k % 256) ∷ (((k / 256) % 256) ∷ []) → list_bytes n t ≡ b ++ entries n t
+unfolding list_bytes
+lists_are n t {k} e h is =
+    let high : k / 256 % 256 ≡ k / 256 = omega arith in
+    rw (is, high, e) refl

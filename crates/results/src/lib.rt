@@ -2,12 +2,12 @@
 #![tactic(auto)]
 
 ghost use Rattle.std.specs.Prelude.{◌≡◌, ◌++◌, ◌+◌, ◌*◌, ◌≤◌, ◌<◌, length, drop};
-ghost use Rattle.writing.specs.Written.{Wrote};
+ghost use Rattle.writing.specs.Written.{HasRoom, Puts};
 ghost use Rattle.roommates.specs.Left.{partner_on, pairing_of, entry, row_entries, entries, entry_count, list_bytes};
 
 use lists::rows::list_length;
 use sections::Joints;
-use writing::write_word;
+use writing::Writer;
 
 // the lowest joint on a list, 255 for none: the byte of a pairing
 fn partner_on(n: Joints, row: &[u8; 128]) -> u8
@@ -36,36 +36,32 @@ fn count_entries(n: Joints, bands: &[[u8; 128]; 128]) -> usize
 }
 
 // a's entry for b, if there is one
-fn write_entry(a: usize, row: &[u8; 128], b: usize, at: usize, out: &mut [u8]) -> usize
-    requires { (a < 128) × ((b < 128) × (at + length (entry a row.now b) ≤ length out.old)) }
-    ensures { Wrote out.old at (entry a row.now b) out.new result }
+fn write_entry(a: usize, row: &[u8; 128], b: usize, out: &mut Writer<'_>)
+    requires { (a < 128) × ((b < 128) × HasRoom out.old (entry a row.now b)) }
+    ensures { Puts out.old (entry a row.now b) out.new }
 {
     if row[b] == 0 {
-        return at;
+        return;
     }
-    write_word(&[a as u8, b as u8, row[b]], at, out)
+    out.write(&[a as u8, b as u8, row[b]]);
 }
 
-fn write_row(n: Joints, a: usize, row: &[u8; 128], at: usize, out: &mut [u8]) -> usize
-    requires { (a < 128) × (at + length (row_entries n.count a row.now) ≤ length out.old) }
-    ensures { Wrote out.old at (row_entries n.count a row.now) out.new result }
+fn write_row(n: Joints, a: usize, row: &[u8; 128], out: &mut Writer<'_>)
+    requires { (a < 128) × HasRoom out.old (row_entries n.count a row.now) }
+    ensures { Puts out.old (row_entries n.count a row.now) out.new }
 {
-    let mut next = at;
     for b in 0..n.count {
-        next = write_entry(a, row, b, next, out);
+        write_entry(a, row, b, out);
     }
-    next
 }
 
-fn write_rows(n: Joints, bands: &[[u8; 128]; 128], at: usize, out: &mut [u8]) -> usize
-    requires { at + length (entries n.count bands.now) ≤ length out.old }
-    ensures { Wrote out.old at (entries n.count bands.now) out.new result }
+fn write_rows(n: Joints, bands: &[[u8; 128]; 128], out: &mut Writer<'_>)
+    requires { HasRoom out.old (entries n.count bands.now) }
+    ensures { Puts out.old (entries n.count bands.now) out.new }
 {
-    let mut next = at;
     for a in 0..n.count {
-        next = write_row(n, a, &bands[a], next, out);
+        write_row(n, a, &bands[a], out);
     }
-    next
 }
 
 // The shortened lists, count first; the count.
@@ -75,7 +71,8 @@ pub fn write_lists(n: Joints, bands: &[[u8; 128]; 128], out: &mut [u8]) -> usize
     ensures out_after { out.new ≡ list_bytes n.count bands.now ++ drop (2 + 3 * result) out.old }
 {
     let count = count_entries(n, bands);
-    let third = write_word(&(count as u16).to_le_bytes(), 0, out);
-    write_rows(n, bands, third, out);
+    let mut lists = Writer::new(out);
+    lists.write(&(count as u16).to_le_bytes());
+    write_rows(n, bands, &mut lists);
     count
 }

@@ -1,3 +1,4 @@
 -- Laws of writing, and the claims.
 pub mod Writings
+pub mod Writers
 pub mod Decimals

@@ -1,12 +1,11 @@
 -- Laws of writing: what is written piece by piece is the whole.
 use mathlib.Core.Path.{◌≡◌, refl, ap, sym, ◌∙◌}
 use mathlib.Core.List.{List, [], ◌∷◌, ◌++◌}
-use Prim.Native.Nat.{ℕ, suc, ◌+◌, ◌≤◌, ◌<◌}
+use Prim.Native.Nat.{ℕ, suc, ◌+◌, ◌≤◌}
 use native.Mathlib.Nat.{add-zero, add-suc, suc-add}
-use native.Mathlib.Numerals.{add-one}
 use native.Mathlib.Omega.{arith}
-use lib.ListN.{length, get_or, set, take, drop, length-append}
-use lib.Seq.{drop-drop, sets, sets-eq, length-sets, take-suc}
+use lib.ListN.{length, set, take, drop, length-append}
+use lib.Seq.{drop-drop, sets, sets-eq, length-sets}
 use Rattle.std.proofs.lemmas.List.{append_assoc}
 use Rattle.base.specs.Below.{joined}
 use Rattle.base.proofs.Joined.{joined_zero, joined_next}
@@ -43,12 +42,6 @@ copied_wrote l bytes i h = record {
 pub wrote_append : {l l₁ l₂ a b : List ℕ} {i i₁ i₂ : ℕ} → Wrote l i a l₁ i₁ → Wrote l₁ i₁ b l₂ i₂ → Wrote l i (a ++ b) l₂ i₂
 wrote_append {l} {l₁} {l₂} {a} {b} {i} u v =
     record { buffer = rw (written_append, ← u.behind, ← u.buffer) v.buffer; behind = rw length-append (omega arith) }
-
--- one byte more of a word
-pub wrote_more :
-    {l l₁ l₂ : List ℕ} {i i₁ i₂ : ℕ} (w : List ℕ) (k : ℕ) → k < length w → Wrote l i (take k w) l₁ i₁ → Wrote l₁ i₁ (get_or w k 0 ∷ []) l₂ i₂
-    → Wrote l i (take (k + 1) w) l₂ i₂
-wrote_more w k h u v = rw (add-one, take-suc w k 0) (wrote_append u v)
 
 -- IN A LOOP: the parts of 0, 1, 2 and so on
 pub joined_none : (l : List ℕ) (j : ℕ) (part : ℕ → List ℕ) → Wrote l j (joined 0 part) l j

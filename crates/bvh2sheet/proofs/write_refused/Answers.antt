@@ -1,29 +1,32 @@
-use mathlib.Core.Path.{◌≡◌, sym}
-use mathlib.Core.List.{List}
-use Prim.Native.Nat.{ℕ, ◌≤◌}
-use native.Mathlib.Omega.{arith}
-use lib.ListN.{length, take, drop}
+use Rattle.std.proofs.Common.{◌≡◌, ◌≤◌, sym, List, ℕ, length, take, drop, arith}
+use lib.ListN.{length-append}
 use lib.Seq.{length-take-le, take-append_seam}
 use Rattle.io.specs.Counts.{IsPrefixLen}
-use Rattle.writing.specs.Written.{Wrote}
-use Rattle.writing.proofs.Writings.{wrote_length, front_wrote}
+use Rattle.writing.specs.Written.{over}
 use Rattle.writing.proofs.Decimals.{number_line_short}
+use Rattle.writing.proofs.Writers.{new_room, new_puts}
 use Rattle.bvh2sheet.specs.Said.{refused_word, refused_line}
 use Rattle.bvh2sheet.proofs.write_refused.Goals as goal
+use Rattle.bvh2sheet.proofs.write_refused.Goals.{After-new-said}
 
 -- the line begins its buffer
-said : {l l₁ : List ℕ} {r : ℕ} (k : ℕ) → 12 ≤ length l → Wrote l 0 (refused_line k) l₁ r → IsPrefixLen r l₁ × (take r l₁ ≡ refused_line k)
-said {l} {l₁} {r} k room wrote =
-    let short = number_line_short refused_word k in
-    let (end, left) = front_wrote (refused_line k) (omega arith) wrote in
-    let same = wrote_length wrote in
-    let within : r ≤ length l₁ = omega arith in (
-      (within, sym (length-take-le r l₁ within)),
-      rw (end, left) (take-append_seam (refused_line k) (drop (length (refused_line k)) l)),
-    )
+begins : {line l₁ : List ℕ} {r : ℕ} (l : List ℕ) → (r ≡ length line) × (l₁ ≡ over line l) → IsPrefixLen r l₁ × (take r l₁ ≡ line)
+begins {line} {l₁} {r} l h =
+    let whole = length-append line (drop (length line) l) in
+    let within : r ≤ length l₁ = rw h.1 (omega (arith, h.0)) in
+    ((within, sym (length-take-le r l₁ within)), rw (h.0, h.1) (take-append_seam line (drop (length line) l)))
+
+fits : (c : After-new-said) → length (refused_line c.args.number) ≤ length c.args.line.now
+fits c = omega (arith, number_line_short refused_word c.args.number)
+
+pub number_line-requires : goal.number_line-requires
+number_line-requires c =
+    let byte = c.from in
+    let room = new_room {w = c.new-said.result} c.new-said.ensures.bytes c.new-said.ensures.start (fits (goal.at.number_line-requires c).After-new-said) in
+    (omega arith, rw byte.ensures room)
 
 pub returns : goal.returns
 returns c =
-    let byte = c.from in
-    let says = said c.args.number c.requires (rw byte.ensures at c.write_number_line.ensures) in
+    let wrote = rw c.from.ensures at c.number_line.ensures in
+    let says = begins c.args.line.now (new_puts c.new-said.ensures.bytes c.new-said.ensures.start (fits (goal.at.returns c).After-new-said) wrote) in
     record { prefix_len = says.0; line_after = says.1 }

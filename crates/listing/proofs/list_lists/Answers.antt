@@ -18,14 +18,29 @@ write_pairing-requires-clause-listable c =
     let p = paired (goal.at.write_pairing-requires-clause-listable c).In-Ok-Paired in
     record { labelled = rw p.size c.requires.labelled; within = rw p.size p.within }
 
+pub write_pairing-requires-clause-room : goal.write_pairing-requires-clause-room
+write_pairing-requires-clause-room c = rw (paired (goal.at.write_pairing-requires-clause-room c).In-Ok-Paired).text at c.requires.room
+
 pub returns-in-Ok-Paired : goal.returns-in-Ok-Paired
 returns-in-Ok-Paired c = rw (paired (goal.at.returns-in-Ok-Paired c).In-Ok-Paired).text c.write_pairing.ensures
+
+pub write_none-requires : goal.write_none-requires
+write_none-requires c =
+    let a = c.args in
+    let ended = sym c.settle_lists.ensures.value ∙ c.in-Ok-None.is ∙ ap Ok c.in-Ok-None.field-0-is in
+    rw (text_none (label_at a.opened.bytes.now a.opened.labels) a.rankings.now.joints.count a.rankings.now.bands ended) at c.requires.room
 
 pub returns-in-Ok-None : goal.returns-in-Ok-None
 returns-in-Ok-None c =
     let a = c.args in
     let ended = sym c.settle_lists.ensures.value ∙ c.in-Ok-None.is ∙ ap Ok c.in-Ok-None.field-0-is in
     rw (text_none (label_at a.opened.bytes.now a.opened.labels) a.rankings.now.joints.count a.rankings.now.bands ended) c.write_none.ensures
+
+pub write_refused-requires : goal.write_refused-requires
+write_refused-requires c =
+    let a = c.args in
+    let ended = sym c.settle_lists.ensures.value ∙ c.in-Err.is in
+    rw (text_refused (label_at a.opened.bytes.now a.opened.labels) a.rankings.now.joints.count a.rankings.now.bands ended) at c.requires.room
 
 pub returns-in-Err : goal.returns-in-Err
 returns-in-Err c =

@@ -1,27 +1,21 @@
--- A refused sheet's text, or that of its rankings.
-use Rattle.std.proofs.Common.{arith}
-use Rattle.listing.proofs.SheetTexts.{text_fault, listed_sheet, sheet_wrote}
+-- There is room for every text.
+use Rattle.std.proofs.Common.{◌≤◌, length, arith}
+use Rattle.writing.proofs.Writers.{new_room, new_puts}
+use Rattle.listing.specs.Sheets.{sheet_text}
+use Rattle.listing.proofs.SheetTexts.{text_short}
 use Rattle.listing.proofs.list_sheet.Goals as goal
+use Rattle.listing.proofs.list_sheet.Goals.{After-new-text}
 
-pub new-opened-requires : goal.new-opened-requires
-new-opened-requires c = let l = (listed_sheet c.args.sheet.now c.in-Ok.found c.in-Ok.ensures).labelled in (omega arith, omega arith)
+fits : (c : After-new-text) → length (sheet_text c.args.sheet.now) ≤ length c.args.out.now
+fits c = omega (arith, text_short c.args.sheet.now)
 
-pub list_lists-requires : goal.list_lists-requires
-list_lists-requires c =
-    let e = c.new-opened.ensures in
-    let l = (listed_sheet c.args.sheet.now c.in-Ok.found c.in-Ok.ensures).labelled in
-    record { labelled = rw (e.0, e.1.0, e.1.1) l; in_bounds = omega arith }
+pub write_sheet-requires : goal.write_sheet-requires
+write_sheet-requires c =
+    let new = c.new-text.ensures in
+    new_room {w = c.new-text.result} new.bytes new.start (fits (goal.at.write_sheet-requires c).After-new-text)
 
-pub returns-in-Err : goal.returns-in-Err
-returns-in-Err c =
-    let s = c.args.sheet.now in
-    let says = sheet_wrote s (text_fault s _ c.in-Err.ensures) (omega arith) c.write_refused.ensures in
-    record { value = says.0; out_after = says.1 }
-
-pub returns-in-Ok : goal.returns-in-Ok
-returns-in-Ok c =
-    let s = c.args.sheet.now in
-    let e = c.new-opened.ensures in
-    let text = (listed_sheet s c.in-Ok.found c.in-Ok.ensures).text in
-    let says = sheet_wrote s text (omega arith) (rw (e.0, e.1.0) at c.list_lists.ensures) in
+pub returns : goal.returns
+returns c =
+    let new = c.new-text.ensures in
+    let says = new_puts new.bytes new.start (fits (goal.at.returns c).After-new-text) c.write_sheet.ensures in
     record { value = says.0; out_after = says.1 }

@@ -1,91 +1,63 @@
-use mathlib.Core.Path.{◌≡◌}
-use mathlib.Core.List.{List}
-use Prim.Native.Nat.{ℕ, ◌+◌, ◌*◌, ◌-◌, ◌≤◌}
-use native.Mathlib.Omega.{arith}
-use lib.ListN.{length}
-use Rattle.base.specs.Below.{joined}
-use Rattle.sections.specs.Labels.{label_at}
+use Rattle.std.proofs.Common.{◌≡◌, ◌+◌, ◌-◌, length, arith}
 use Rattle.matching.specs.Matchings.{pair_count, alone_count}
 use Rattle.matching.proofs.PairCounts.{paired_or_alone}
-use Rattle.writing.specs.Written.{Wrote}
+use Rattle.writing.specs.Written.{Puts}
 use Rattle.writing.specs.Decimal.{number_line}
-use Rattle.writing.proofs.Writings.{wrote_append, wrote_length}
-use Rattle.writing.proofs.Decimals.{number_line_short}
-use Rattle.listing.specs.Text.{pairs_word, alone_word, pair_part, alone_part, pairing_text}
-use Rattle.listing.proofs.LineLaws.{labels_short, lines_short}
+use Rattle.writing.proofs.Writers.{puts_append, room_front, room_behind}
+use Rattle.listing.specs.Text.{pairs_word, alone_word, pairing_text}
 use Rattle.listing.proofs.write_pairing.Goals as goal
-use Rattle.listing.proofs.write_pairing.Goals.{After-count_paired-paired, After-write_number_line-first, After-write_number_line-third}
-
-abbrev M : After-count_paired-paired → List ℕ
-M c = c.args.partners.now
+use Rattle.listing.proofs.write_pairing.Goals.{After-count_paired-paired, After-number_line, After-number_line-2}
 
 -- how many joints are not paired
-others : (c : After-count_paired-paired) → c.count_paired-paired.result + alone_count (M c) ≡ length (M c)
-others c = let e = c.count_paired-paired.ensures in let h = paired_or_alone (M c) in omega arith
+others : (c : After-count_paired-paired) → c.count_paired-paired.result + alone_count c.args.partners.now ≡ length c.args.partners.now
+others c = let e = c.count_paired-paired.ensures in let h = paired_or_alone c.args.partners.now in omega arith
+
+alone : (c : After-count_paired-paired) → length c.args.partners.now - c.count_paired-paired.result ≡ alone_count c.args.partners.now
+alone c = let h = others c in omega arith
 
 -- the two counts as they are written
-first :
-    (c : After-write_number_line-first)
-    → Wrote c.args.out.now 0 (number_line pairs_word (pair_count c.args.partners.now)) c.write_number_line-first.new.out
-    c.write_number_line-first.result
-first c = rw c.count_paired-paired.ensures at c.write_number_line-first.ensures
+pairs_put : (c : After-number_line) → Puts c.args.out.now (number_line pairs_word (pair_count c.args.partners.now)) c.number_line.new.self
+pairs_put c = rw c.count_paired-paired.ensures at c.number_line.ensures
 
-third :
-    (c : After-write_number_line-third)
-    → Wrote c.write_pairs-second.new.out c.write_pairs-second.result
-    (number_line alone_word (alone_count c.args.partners.now)) c.write_number_line-third.new.out c.write_number_line-third.result
-third c =
-    let h = others (goal.at.After-write_number_line-third c).After-count_paired-paired in
-    let e : length c.args.partners.now - c.count_paired-paired.result ≡ alone_count c.args.partners.now = omega arith in
-    rw e at c.write_number_line-third.ensures
+alone_put : (c : After-number_line-2) → Puts c.write_pairs.new.out (number_line alone_word (alone_count c.args.partners.now)) c.number_line-2.new.self
+alone_put c = rw (alone (goal.at.After-number_line-2 c).After-count_paired-paired) at c.number_line-2.ensures
 
--- how long the lines are
-abbrev label : After-count_paired-paired → ℕ → List ℕ
-label c = label_at c.args.opened.bytes.now c.args.opened.labels
+pub number_line-requires : goal.number_line-requires
+unfolding pairing_text
+number_line-requires c =
+    let h = others (goal.at.number_line-requires c).After-count_paired-paired in
+    (omega arith, rw c.count_paired-paired.ensures (room_front _ c.requires.room))
 
-lines : (c : After-count_paired-paired)
-    → length (joined (length (M c)) (pair_part (label c) (M c))) + length (joined (length (M c)) (alone_part (label c) (M c))) ≤ 34 * length (M c)
-lines c = lines_short (label c) (labels_short c.args.opened.bytes.now c.args.opened.labels) (M c) (length (M c))
-
-pub write_number_line-first-requires : goal.write_number_line-first-requires
-write_number_line-first-requires c = let h = others (goal.at.write_number_line-first-requires c).After-count_paired-paired in omega arith
-
-pub write_pairs-second-requires : goal.write_pairs-second-requires
-write_pairs-second-requires c =
-    let at_count_paired_paired = (goal.at.write_pairs-second-requires c).After-count_paired-paired in
-    let f = first (goal.at.write_pairs-second-requires c).After-write_number_line-first in
-    let k = wrote_length f in
-    let a = number_line_short pairs_word (pair_count (M at_count_paired_paired)) in
-    let l = lines at_count_paired_paired in
-    record { listable = c.requires.listable; partners_in_bounds = omega arith }
+pub write_pairs-requires : goal.write_pairs-requires
+unfolding pairing_text
+write_pairs-requires c = record {
+  listable = c.requires.listable;
+  room = room_front _ (room_behind c.requires.room (pairs_put (goal.at.write_pairs-requires c).After-number_line));
+}
 
 pub overflow_sub-partners : goal.overflow_sub-partners
 overflow_sub-partners c = let h = others (goal.at.overflow_sub-partners c).After-count_paired-paired in omega arith
 
-pub write_number_line-third-requires : goal.write_number_line-third-requires
-write_number_line-third-requires c =
-    let at_count_paired_paired = (goal.at.write_number_line-third-requires c).After-count_paired-paired in
-    let f = first (goal.at.write_number_line-third-requires c).After-write_number_line-first in
-    let k = wrote_length (wrote_append f c.write_pairs-second.ensures) in
-    let a = number_line_short pairs_word (pair_count (M at_count_paired_paired)) in
-    let l = lines at_count_paired_paired in
-    let h = others at_count_paired_paired in
-    (omega arith, omega arith)
+pub number_line-requires-2 : goal.number_line-requires-2
+unfolding pairing_text
+number_line-requires-2 c =
+    let counted = (goal.at.number_line-requires-2 c).After-count_paired-paired in
+    let h = others counted in
+    let first = pairs_put (goal.at.number_line-requires-2 c).After-number_line in
+    (omega arith, rw (alone counted) (room_front _ (room_behind (room_behind c.requires.room first) c.write_pairs.ensures)))
 
 pub write_alone-requires : goal.write_alone-requires
+unfolding pairing_text
 write_alone-requires c =
-    let at_count_paired_paired = (goal.at.write_alone-requires c).After-count_paired-paired in
-    let f = first (goal.at.write_alone-requires c).After-write_number_line-first in
-    let g = c.write_pairs-second.ensures in
-    let h = third (goal.at.write_alone-requires c).After-write_number_line-third in
-    let k = wrote_length (wrote_append f (wrote_append g h)) in
-    let a = number_line_short pairs_word (pair_count (M at_count_paired_paired)) in
-    let b = number_line_short alone_word (alone_count (M at_count_paired_paired)) in
-    let l = lines at_count_paired_paired in
-    record { labelled = c.requires.listable.labelled; partners_in_bounds = omega arith }
+    let first = pairs_put (goal.at.write_alone-requires c).After-number_line in
+    let third = alone_put (goal.at.write_alone-requires c).After-number_line-2 in
+    record {
+      labelled = c.requires.listable.labelled;
+      room = room_behind (room_behind (room_behind c.requires.room first) c.write_pairs.ensures) third;
+    }
 
 pub returns : goal.returns
 unfolding pairing_text
 returns c =
-    wrote_append (first (goal.at.returns c).After-write_number_line-first)
-    (wrote_append c.write_pairs-second.ensures (wrote_append (third (goal.at.returns c).After-write_number_line-third) c.write_alone.ensures))
+    puts_append (pairs_put (goal.at.returns c).After-number_line)
+    (puts_append c.write_pairs.ensures (puts_append (alone_put (goal.at.returns c).After-number_line-2) c.write_alone.ensures))

@@ -1,9 +1,12 @@
-use Rattle.writing.proofs.Writings.{nothing_wrote}
-use Rattle.bvh.proofs.WriteLaws.{parents_more}
+use Rattle.writing.proofs.Writers.{nothing_puts}
+use Rattle.bvh.proofs.WriteLaws.{parent_room, parent_more}
 use Rattle.bvh.proofs.sheets.write_parents.Goals as goal
 
 pub loop-joint-init : goal.loop-joint-init
-loop-joint-init c = nothing_wrote _ _
+loop-joint-init c = nothing_puts _
+
+pub put-requires : goal.put-requires
+put-requires c = parent_room c.args.joints.now _ _ c.loop-joint-test.true c.requires c.loop-joint.invariant
 
 pub loop-joint-preserved : goal.loop-joint-preserved
-loop-joint-preserved c = parents_more c.args.joints.now _ _ c.loop-joint-test.true c.loop-joint.invariant c.put-next.ensures
+loop-joint-preserved c = parent_more c.args.joints.now _ _ c.loop-joint-test.true c.loop-joint.invariant c.put.ensures

@@ -8,8 +8,8 @@ use Rattle.labels.proofs.lines.write_label.Goals.{After-visible_run-shown}
 shown : (c : After-visible_run-shown) → take c.visible_run-shown.result c.args.label.now ≡ label_text c.args.label.now
 shown c = shown_text _ _ c.visible_run-shown.ensures.value
 
-pub write_word-requires : goal.write_word-requires
-write_word-requires c = rw (shown (goal.at.write_word-requires c).After-visible_run-shown) c.requires
+pub write-requires : goal.write-requires
+write-requires c = rw (shown (goal.at.write-requires c).After-visible_run-shown) c.requires
 
 pub returns : goal.returns
-returns c = rw (shown (goal.at.returns c).After-visible_run-shown) at c.write_word.ensures
+returns c = rw (shown (goal.at.returns c).After-visible_run-shown) at c.write.ensures

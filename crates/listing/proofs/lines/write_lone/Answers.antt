@@ -1,19 +1,17 @@
-use Rattle.std.proofs.Common.{length, ap, arith}
 use Rattle.sections.specs.Labels.{label_at}
-use Rattle.writing.proofs.Writings.{nothing_wrote}
+use Rattle.writing.proofs.Writers.{nothing_puts}
 use Rattle.listing.proofs.LineLaws.{alone_listed, alone_paired}
 use Rattle.listing.proofs.lines.write_lone.Goals as goal
 
 pub write_label_line-requires : goal.write_label_line-requires
 write_label_line-requires c =
     let a = c.args in
-    let e = ap length (alone_listed (label_at a.opened.bytes.now a.opened.labels) a.partners.now a.i c.in-None.ensures) in
-    rw c.label.ensures (omega arith)
+    rw c.label.ensures (rw (alone_listed (label_at a.opened.bytes.now a.opened.labels) a.partners.now a.i c.in-None.ensures) at c.requires.room)
 
 pub returns-in-Some : goal.returns-in-Some
 returns-in-Some c =
     let a = c.args in
-    rw (alone_paired (label_at a.opened.bytes.now a.opened.labels) a.partners.now a.i c.in-Some.ensures) (nothing_wrote _ _)
+    rw (alone_paired (label_at a.opened.bytes.now a.opened.labels) a.partners.now a.i c.in-Some.ensures) (nothing_puts _)
 
 pub returns-in-None : goal.returns-in-None
 returns-in-None c =
