@@ -5,9 +5,20 @@ use Prim.Native.Nat.{ℕ, zero, suc, ◌+◌, ◌≤◌, ◌<◌}
 use native.Mathlib.Omega.{arith}
 use borrow.Author.Tests.{eq-eqb, ne_eqb}
 use Rattle.base.proofs.Cases.{case, eq_ne}
-use Rattle.parents.specs.Parents.{parent_of}
+use Rattle.std.proofs.Common.{rules, Some, None, ◌≢◌}
+use Rattle.parents.specs.Parents.{parent_of, parent_in}
 use Rattle.parents.specs.Depths.{depth_in, depth_of}
 use Rattle.parents.specs.Claims.{Lower, DepthRule}
+
+-- A JOINT is a root, or has a parent
+pub no_parent : (ps : List ℕ) (i : ℕ) → parent_in ps i ≡ None → parent_of ps i ≡ 255
+no_parent ps i h = case (eq_ne (parent_of ps i) 255) (λ e. e) (λ ne. let k : Some (parent_of ps i) ≡ None = rw (ne_eqb _ _ ne) at h in search rules)
+
+pub own_parent : (ps : List ℕ) (i a : ℕ) → parent_in ps i ≡ Some a → (parent_of ps i ≡ a) × (a ≢ 255)
+own_parent ps i a h =
+    case (eq_ne (parent_of ps i) 255)
+    (λ e. let k : None ≡ Some a = rw (eq-eqb _ _ e) at h in search rules)
+    (λ ne. let k : Some (parent_of ps i) ≡ Some a = rw (ne_eqb _ _ ne) at h in let same : parent_of ps i ≡ a = search rules in (same, λ z. ne (same ∙ z)))
 
 -- ONE STEP UP
 pub depth_root : (f : ℕ) (ps : List ℕ) (i : ℕ) → parent_of ps i ≡ 255 → depth_in (suc f) ps i ≡ 0

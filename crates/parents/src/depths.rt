@@ -3,7 +3,7 @@ ghost use Rattle.std.specs.Prelude.{◌≡◌, ◌≤◌, ◌<◌, length};
 ghost use Rattle.parents.specs.Claims.{Lower};
 ghost use Rattle.parents.specs.Depths.{depth_of};
 
-use crate::{ROOT, parent};
+use crate::parent;
 
 // One more than the parent's, and nought at a root. A parent is lower, so the joint number falls at each call.
 pub fn depth(parents: &[u8], joint: usize) -> usize
@@ -11,9 +11,8 @@ pub fn depth(parents: &[u8], joint: usize) -> usize
     ensures value { result ≡ depth_of parents.now joint }
     ensures upper_bound { result ≤ joint }
 {
-    let above = parent(parents, joint);
-    if above == ROOT {
+    let Some(above) = parent(parents, joint) else {
         return 0;
-    }
+    };
     depth(parents, above) + 1
 }

@@ -5,18 +5,22 @@ mod depths;
 mod parent_section;
 
 ghost use Rattle.std.specs.Prelude.{◌≡◌, ◌<◌, length};
-ghost use Rattle.parents.specs.Parents.{parent_of};
+ghost use Rattle.parents.specs.Parents.{parent_in};
 
 pub use depths::depth;
 pub use parent_section::{parents_extent, read_third};
 
-// The byte of a root, as the section has it: a joint's parent is told by its byte, of which a depth and a pair make what they need.
-pub const ROOT: usize = 255;
+// The byte of a root.
+const ROOT: u8 = 255;
 
-// A joint's parent, by the parent bytes.
-pub fn parent(parents: &[u8], joint: usize) -> usize
+// A joint's parent, by the parent bytes; none for a root.
+pub fn parent(parents: &[u8], joint: usize) -> Option<usize>
     requires { joint < length parents.now }
-    ensures { result ≡ parent_of parents.now joint }
+    ensures { result ≡ parent_in parents.now joint }
 {
-    usize::from(parents[joint])
+    let above = parents[joint];
+    if above == ROOT {
+        return None;
+    }
+    Some(usize::from(above))
 }

@@ -4,7 +4,7 @@ ghost use Rattle.base.specs.Below.{any_below};
 ghost use Rattle.refusals.specs.Numbers.{answered};
 ghost use Rattle.parents.specs.Parents.{bad_parent, extent_fault, counted_fault, parents_fault, parents_in};
 
-use crate::{ROOT, parent};
+use crate::parent;
 use refusals::Refusal;
 
 // How far the section goes, which may be left out: as far as the sheet, or it is cut short, or bytes follow it.
@@ -29,8 +29,7 @@ fn is_bad(part: &[u8], joint: usize) -> bool
     requires { joint < length part.now }
     ensures { result ≡ bad_parent part.now joint }
 {
-    let above = parent(part, joint);
-    above != ROOT && joint <= above
+    parent(part, joint).is_some_and(|above| joint <= above)
 }
 
 fn some_bad(part: &[u8]) -> bool

@@ -7,7 +7,7 @@ ghost use Rattle.skeleton.specs.Answers.{followed};
 
 use crate::Strays;
 use matching::{pair_number, partner};
-use parents::{ROOT, parent};
+use parents::parent;
 
 // A byte of each kind for each joint; a parent is lower.
 #[derive(Clone, Copy)]
@@ -26,9 +26,11 @@ impl Posed<'_> {
         requires { (a < length self.now.pairing.now) × (b < length self.now.pairing.now) }
         ensures { result ≡ follows self.now.parents.now self.now.pairing.now a b }
     {
-        let p = parent(self.parents, a);
-        let q = parent(self.parents, b);
-        p == q || p != ROOT && q != ROOT && partner(self.pairing, p) == Some(q)
+        match (parent(self.parents, a), parent(self.parents, b)) {
+            (Some(p), Some(q)) => p == q || partner(self.pairing, p) == Some(q),
+            (None, None) => true,
+            _ => false,
+        }
     }
 
     // b is the higher joint of a pair that does not follow.
