@@ -1,20 +1,27 @@
 -- Laws of words met in their places, and of counts.
-use mathlib.Core.Path.{◌≡◌, refl, ap, ◌∙◌}
-use mathlib.Core.Bool.{Bool, true, false, cond}
+use mathlib.Core.Path.{◌≡◌, refl, sym, ap, ◌∙◌}
+use mathlib.Core.Bool.{Bool, true, false, cond, ◌&&◌}
 use mathlib.Core.List.{List, [], ◌∷◌, ◌++◌, append_assoc}
+use mathlib.Core.Logic.{inr}
 use mathlib.Core.Option.{Option, none, some}
 use Prim.Native.Nat.{ℕ, zero, suc, ◌+◌, ◌*◌, ◌-◌, ◌≤◌, ◌<◌, ◌^◌}
-use native.Mathlib.Numerals.{add-one}
 use native.Mathlib.Omega.{arith}
-use lib.ListN.{length, get_or, drop, length-append, drop_of_length-le}
-use lib.Seq.{drop-cons}
-use lib.Dec.{eqb}
+use lib.ListN.{length, length-append, get_or-eq_default}
+use lib.Dec.{eqb, leb}
 use lib.Pointwise.{pointwise}
-use borrow.Author.Tests.{le-leb, lt-leb}
+use borrow.Author.Tests.{le-leb, leb-true}
 use denote.Ref.{Bor}
-use Rattle.std.specs.Prelude.{Some, None}
+use Rattle.std.specs.Prelude.{Some, None, Result, Ok, Err}
 use Rattle.std.specs.Prelude as found
+use Rattle.std.specs.Char.{is_ascii_digit}
+use Rattle.std.specs.List.{list_all}
+use Rattle.std.specs.Result.{result_ok}
+use Rattle.std.specs.Str.{IsUtf8}
+use Rattle.std.specs.Str.Parse.{ParsesUnsigned}
+use Rattle.std.proofs.lemmas.Str.{IsUtf8-from_ascii}
+use Rattle.std.proofs.lemmas.Str.Parse.{IsDigitsTest, FoldsDigits, IsNumeralModel, numerals_by_fold, parse_digits, digit_at}
 use Rattle.base.proofs.Cases.{case, lt_ge}
+use Rattle.base.proofs.Tests.{and_true}
 use Rattle.sections.specs.Labels.{same_bytes}
 use Rattle.writing.specs.Claims.{value_after}
 use Rattle.words.specs.Words.{Words, words}
@@ -117,37 +124,40 @@ any_end count i ws h = let e : count - i ≡ 0 = omega arith in rw e
 pub any_turn : {s word rest : List ℕ} (count i : ℕ) → i < count → NextWord s word rest → any_words (count - i) (words s) ≡ any_words (count - (i + 1)) (words rest)
 any_turn count i h next = let n : count - i ≡ suc (count - (i + 1)) = omega arith in rw n (any_next next _)
 
--- DIGITS, one after the other: a value only grows
-value_grows : (v : ℕ) (w : List ℕ) → v ≤ value_after v w
+-- A WORD OF DIGITS, as the library knows and reads it
+pub all_same : (w : List ℕ) → list_all is_ascii_digit w ≡ all_digits w
+unfolding all_digits
+all_same [] = refl
+all_same (b ∷ w) = ap (λ (t : Bool). (leb 48 b && leb b 57) && t) (all_same w)
+
+tells : IsDigitsTest (λ w. all_digits w ≡ true)
+unfolding all_digits
+tells = record {
+  empty = refl;
+  parts = λ b w e.
+      let (here, rest) = and_true (leb 48 b && leb b 57) (all_digits w) e in
+      let (low, high) = and_true (leb 48 b) (leb b 57) here in
+      ((leb-true 48 b low, leb-true b 57 high), rest);
+  more = λ b w h e. rw (le-leb 48 b h.0, le-leb b 57 h.1, e) refl;
+}
+
+folds : FoldsDigits value_after
 unfolding value_after
-value_grows v [] = omega arith
-value_grows v (b ∷ w) = let h = value_grows (10 * v + (b - 48)) w in omega arith
+folds = record {
+  empty = λ v. refl;
+  more = λ v b w h. let e : 10 * v + (b - 48) ≡ v * 10 + (b - 48) = omega arith in ap (λ (k : ℕ). value_after k w) e;
+}
 
-module _ (w : List ℕ) (i : ℕ) where
-  pub digits_more : i < length w → 48 ≤ get_or w i 0 → get_or w i 0 ≤ 57 → all_digits (drop i w) ≡ all_digits (drop (i + 1) w)
-  unfolding all_digits
-  digits_more h l u = rw (add-one, drop-cons w i 0, le-leb _ _ l, le-leb _ _ u)
+digits : IsNumeralModel (λ w. all_digits w ≡ true) (value_after 0)
+digits = numerals_by_fold (λ w. all_digits w ≡ true) tells value_after folds
 
-  pub digits_other : i < length w → (48 ≤ get_or w i 0 → 57 < get_or w i 0) → all_digits (drop i w) ≡ false
-  unfolding all_digits
-  digits_other h o =
-      case (lt_ge (get_or w i 0) 48) (λ l. rw (drop-cons w i 0 h, lt-leb _ _ l)) (λ g. rw (drop-cons w i 0 h, le-leb _ _ g, lt-leb _ _ (o g)))
+pub digits_text : (w : List ℕ) → all_digits w ≡ true → IsUtf8 w
+digits_text w e =
+    IsUtf8-from_ascii w
+    (λ i. case (lt_ge i (length w)) (λ l. omega (arith, digit_at w i (digits.to w e) l)) (λ g. omega (arith, get_or-eq_default w 0 g)))
 
-  pub digits_end : length w ≤ i → all_digits (drop i w) ≡ true
-  unfolding all_digits
-  digits_end h = rw (drop_of_length-le w h)
-
-  pub value_more : (v : ℕ) → i < length w → value_after v (drop i w) ≡ value_after (10 * v + (get_or w i 0 - 48)) (drop (i + 1) w)
-  unfolding value_after
-  value_more v h = rw (add-one, drop-cons w i 0)
-
-  pub value_end : (v : ℕ) → length w ≤ i → value_after v (drop i w) ≡ v
-  unfolding value_after
-  value_end v h = rw (drop_of_length-le w h)
-
-  -- with a digit it is that much at least
-  pub value_passes : (most v : ℕ) → i < length w → most ≤ 10 * v + (get_or w i 0 - 48) → most ≤ value_after v (drop i w)
-  value_passes most v h l =
-      let more = value_more v h in
-      let grown = value_grows (10 * v + (get_or w i 0 - 48)) (drop (i + 1) w) in
-      omega arith
+pub parsed_is : {E : Type 0} (w : List ℕ) (r : Result ℕ E) → all_digits w ≡ true → 1 ≤ length w → ParsesUnsigned 64 10 w r → CountOf w (result_ok r)
+parsed_is {E} w (Ok k) e long h = (e, sym (parse_digits digits {E = E} 64 w (Ok k) h e).1)
+parsed_is {E} w (Err x) e long h =
+    let fits = parse_digits digits {E = E} 64 w (Err x) h e in
+    inr (case (lt_ge (value_after 0 w) (2 ^ 64)) (λ l. absurd (fits (omega arith, l))) (λ g. g))

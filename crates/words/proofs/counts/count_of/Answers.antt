@@ -1,32 +1,26 @@
-use Rattle.std.proofs.Common.{◌≡◌, ◌+◌, ◌*◌, ◌-◌, ◌∙◌, get_or, arith, rules, inl, inr}
-use Rattle.words.proofs.MetLaws.{digits_more, digits_other, digits_end, value_more, value_end, value_passes}
+use Rattle.std.proofs.Common.{◌≡◌, ◌∙◌, sym, rules, inl}
+use Rattle.std.specs.Char.{is_ascii_digit}
+use Rattle.std.specs.Str.{IsUtf8}
+use Rattle.std.proofs.lemmas.Iterator.{YieldsList-from_slice}
+use Rattle.std.proofs.lemmas.Iterator.Search.{all_from_yields_List}
+use Rattle.words.proofs.MetLaws.{all_same, digits_text, parsed_is}
 use Rattle.words.proofs.counts.count_of.Goals as goal
 
-pub returns-then-not-is_ascii_digit : goal.returns-then-not-is_ascii_digit
-returns-then-not-is_ascii_digit c = inl (c.loop-b.invariant.digits ∙ digits_other _ _ c.loop-b-test.true (search rules))
+pub returns-then-not-all : goal.returns-then-not-all
+returns-then-not-all c =
+    inl (sym (all_from_yields_List is_ascii_digit _ _ _ c.if-not-all.ensures.ran (YieldsList-from_slice c.args.word.now cc) (λ x b q k. search rules)
+    ∙ all_same c.args.word.now))
 
-pub returns-in_err-checked_mul : goal.returns-in_err-checked_mul
-returns-in_err-checked_mul c =
-    rw (c.from_residual.ensures, c.loop-b.invariant.same)
-    (inr (value_passes _ _ _ _ c.loop-b-test.true (omega (arith, c.in_err-checked_mul.ensures))))
-
-pub returns-in_err-value : goal.returns-in_err-value
-returns-in_err-value c =
-    rw (c.from_residual-in_err-value.ensures, c.loop-b.invariant.same)
-    (inr
-    (value_passes _ _ _ _ c.loop-b-test.true (omega (arith, c.in_err-value.ensures, c.in_ok-checked_mul.ensures, c.from.ensures))))
-
-pub loop-b-preserved : goal.loop-b-preserved
-loop-b-preserved c =
-    let digit = c.if-not-is_ascii_digit.ensures.cases in
-    let value : c.in_ok-value.value ≡ 10 * c.loop-b.value + (get_or c.args.word.now c.loop-b.b-index 0 - 48)
-    = omega (arith, c.in_ok-value.ensures, c.in_ok-checked_mul.ensures, c.from.ensures) in
-    record {
-      digits = c.loop-b.invariant.digits ∙ digits_more _ _ c.loop-b-test.true digit.0 digit.1;
-      same = c.loop-b.invariant.same ∙ rw value (value_more _ _ _ c.loop-b-test.true);
-    }
+pub returns-in_err-ok : goal.returns-in_err-ok
+returns-in_err-ok c =
+    let word = c.args.word.now in
+    let all = all_from_yields_List is_ascii_digit _ _ _ c.if-not-all.ensures.ran (YieldsList-from_slice word cc) (λ x b q k. search rules) ∙ all_same word in
+    let no_text : IsUtf8 word → ⊥ = search rules in
+    absurd (no_text (digits_text word (sym all)))
 
 pub returns : goal.returns
 returns c =
-    let end = c.loop-b-test.false in
-    (c.loop-b.invariant.digits ∙ digits_end _ _ end, c.loop-b.invariant.same ∙ value_end _ _ _ end)
+    let word = c.args.word.now in
+    let all = all_from_yields_List is_ascii_digit _ _ _ c.if-not-all.ensures.ran (YieldsList-from_slice word cc) (λ x b q k. search rules) ∙ all_same word in
+    let text : c.in_ok-ok.field-0.now ≡ word = search rules in
+    rw c.ok-2.ensures.value (parsed_is word _ (sym all) c.requires (rw text at c.parse.ensures.value.0))
