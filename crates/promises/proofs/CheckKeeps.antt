@@ -16,7 +16,7 @@ use Rattle.sheet.specs.Format.{joints}
 use Rattle.sheet.specs.Refusals.{sheet_fault}
 use Rattle.sheet.specs.Square.{at, square_of}
 use Rattle.sheet.proofs.PromiseKept.{accepted_square}
-use Rattle.refusals.specs.Numbers.{answered, RefusedAs}
+use Rattle.refusals.specs.Numbers.{RefusedAs}
 use Rattle.refusals.proofs.Numbers.{IsFault, is_fault, refused_as, value_as}
 use Rattle.matching.specs.Matchings.{partner, is_matching}
 use Rattle.blocking.specs.Blocking.{blocking_pair}

@@ -1,11 +1,11 @@
 -- An entry's bytes, and those of the shortened lists.
 use mathlib.Core.Path.{◌≡◌, refl, sym, ap, ◌∙◌}
 use mathlib.Core.List.{List, [], ◌∷◌, ◌++◌}
-use Prim.Native.Nat.{ℕ, zero, suc, ◌+◌, ◌*◌, ◌/◌, ◌%◌, ◌≤◌, ◌<◌}
+use Prim.Native.Nat.{ℕ, zero, suc, ◌+◌, ◌/◌, ◌%◌, ◌≤◌, ◌<◌}
 use native.Mathlib.Nat.{mul-le-mul}
 use native.Mathlib.Omega.{arith}
 use native.Mathlib.Numerals.{add-one}
-use lib.ListN.{length, get_or, take, drop}
+use lib.ListN.{length, get_or, take}
 use borrow.Author.Tests.{eq-eqb, ne_eqb, lt-ltb, le-ltb, ltb-true}
 use Rattle.std.specs.Prelude.{Option, Some, None}
 use Rattle.std.specs.Option.{unwrap_or}
@@ -17,11 +17,8 @@ use Rattle.base.proofs.Lowest.{some_passes, lowest_passes}
 use Rattle.roommates.proofs.Rows.{some_listed, listed_some}
 use Rattle.base.proofs.Tests.{listed, unlisted}
 use Rattle.roommates.specs.Lists.{Square, row, is_listed, list_length}
-use Rattle.writing.specs.Written.{Wrote}
-use Rattle.writing.proofs.Writings.{front_wrote}
 use Rattle.roommates.specs.Left.{partner_on, entry, entries, entry_count, list_bytes}
 use Rattle.roommates.proofs.EntryCounts.{entries_bound}
-use Rattle.roommates.proofs.EntriesWritten.{bytes_length}
 
 module _ (a : ℕ) (l : List ℕ) (b : ℕ) where
   pub entry_none : get_or l b 0 ≡ 0 → entry a l b ≡ []
