@@ -28,10 +28,6 @@ pub all_zero_lem : (test : ℕ → Bool) → all_below 0 test ≡ true
 unfolding all_below
 all_zero_lem test = refl
 
-pub all_next : (i : ℕ) (test : ℕ → Bool) → all_below i test ≡ true → test i ≡ true → all_below (i + 1) test ≡ true
-unfolding all_below
-all_next i test h e = rw (add-one i, h) e
-
 -- IN A LOOP that goes on to the end
 module _ (i : ℕ) (test : ℕ → Bool) where
   pub all_fails : test i ≡ false → false ≡ all_below (i + 1) test

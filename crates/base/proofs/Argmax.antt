@@ -49,6 +49,3 @@ module _ (i : ℕ) (f : ℕ → ℕ) {x m k : ℕ} (is : x ≡ argmax i f) (has 
   pub argmax_same : y ≡ x → l ≡ m → k < m → (y ≡ argmax (i + 1) f) × (l ≡ f y)
   unfolding argmax
   argmax_same e v h = (e ∙ rw (add-one i, ← is, ← has, ← next, lt-leb m k h) refl, v ∙ has ∙ ap f (sym e))
-
-pub argmax_ends : (i n : ℕ) (f : ℕ → ℕ) {x : ℕ} → x ≡ argmax i f → i ≤ n → n ≤ i → x ≡ argmax n f
-argmax_ends i n f is l g = let e : i ≡ n = omega arith in rw e at is

@@ -157,9 +157,6 @@ below_hit (suc n) fault j l h f =
     (λ ne. let e = below_hit n fault j (omega arith) h f in
     e ∙ sym (fault_stops _ _ (λ z. f (e ∙ z))))
 
-pub below_end : (j n : ℕ) (fault : ℕ → ℕ) → fault_below j fault ≡ 0 → j ≤ n → n ≤ j → 0 ≡ fault_below n fault
-below_end j n fault h l g = let e : j ≡ n = omega arith in sym (rw e at h)
-
 pub below_none : (n : ℕ) (fault : ℕ → ℕ) → fault_below n fault ≡ 0 → (j : ℕ) → j < n → fault j ≡ 0
 unfolding fault_below
 below_none zero fault h j l = absurd (omega arith)

@@ -6,6 +6,7 @@ pub mod AllBelow
 pub mod CountBelow
 pub mod SumBelow
 pub mod Lowest
+pub mod FirstBelow
 pub mod Argmax
 pub mod Joined
 pub mod Faults

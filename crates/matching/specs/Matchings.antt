@@ -1,6 +1,7 @@
 -- Matchings, over a sheet's n joints, its square of bands t and offered partner bytes m; the counts and the numbers of pairs.
-use Rattle.std.specs.Prelude.{Bool, not, cond, Option, Some, None, ◌&&◌, ◌||◌, List, ℕ, ◌+◌, ◌-◌, ◌*◌, ◌/◌, ltb, eqb, length, get_or}
+use Rattle.std.specs.Prelude.{Bool, not, Option, ◌&&◌, ◌||◌, List, ℕ, ◌+◌, ◌-◌, ◌*◌, ◌/◌, ltb, eqb, length, get_or}
 use Rattle.base.specs.Below.{all_below, count_below}
+use Rattle.sections.specs.Joints.{joint_in}
 use Rattle.sheet.specs.Square.{at}
 
 -- the byte of an unpaired joint
@@ -15,7 +16,7 @@ is_alone m a = eqb (partner m a) alone
 
 -- .. if a has one
 abbrev pub partner_of : List ℕ → ℕ → Option ℕ
-partner_of m a = cond (is_alone m a) None (Some (partner m a))
+partner_of = joint_in
 
 -- a has the partner p: a joint that a lists and whose partner is a
 unfoldable pub is_paired : ℕ → List (List ℕ) → List ℕ → ℕ → ℕ → Bool

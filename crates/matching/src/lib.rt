@@ -2,26 +2,15 @@
 #![tactic(auto)]
 
 ghost use Rattle.std.specs.Prelude.{◌≡◌, ◌<◌, length};
-ghost use Rattle.matching.specs.Matchings.{partner_of, paired_joints, pair_count, is_paired, is_placed, is_matching, pair_number};
+ghost use Rattle.matching.specs.Matchings.{paired_joints, pair_count, is_paired, is_placed, is_matching, pair_number};
 
 use pair_rows::row_start;
 use sections::Joints;
+// a joint's partner, if it is paired
+pub use sections::joint_in as partner;
 
 // The byte of an unpaired joint.
 const ALONE: u8 = 255;
-
-// The partner of a, if a is paired.
-pub fn partner(pairing: &[u8], a: usize) -> Option<usize>
-    requires { a < length pairing.now }
-    ensures { result ≡ partner_of pairing.now a }
-{
-    let p = pairing[a];
-    if p == ALONE {
-        None
-    } else {
-        Some(usize::from(p))
-    }
-}
 
 // Partner bytes that are offered over a sheet's joints and its square of bands.
 #[derive(Clone, Copy)]

@@ -6,15 +6,16 @@ use native.Mathlib.Omega.{arith}
 use borrow.Author.Tests.{eq-eqb, ne_eqb}
 use Rattle.base.proofs.Cases.{case, eq_ne}
 use Rattle.std.proofs.Common.{rules, Some, None, ◌≢◌}
-use Rattle.parents.specs.Parents.{parent_of, parent_in}
+use Rattle.sections.specs.Joints.{joint_in}
+use Rattle.parents.specs.Parents.{parent_of}
 use Rattle.parents.specs.Depths.{depth_in, depth_of}
 use Rattle.parents.specs.Claims.{Lower, DepthRule}
 
 -- A JOINT is a root, or has a parent
-pub no_parent : (ps : List ℕ) (i : ℕ) → parent_in ps i ≡ None → parent_of ps i ≡ 255
+pub no_parent : (ps : List ℕ) (i : ℕ) → joint_in ps i ≡ None → parent_of ps i ≡ 255
 no_parent ps i h = case (eq_ne (parent_of ps i) 255) (λ e. e) (λ ne. let k : Some (parent_of ps i) ≡ None = rw (ne_eqb _ _ ne) at h in search rules)
 
-pub own_parent : (ps : List ℕ) (i a : ℕ) → parent_in ps i ≡ Some a → (parent_of ps i ≡ a) × (a ≢ 255)
+pub own_parent : (ps : List ℕ) (i a : ℕ) → joint_in ps i ≡ Some a → (parent_of ps i ≡ a) × (a ≢ 255)
 own_parent ps i a h =
     case (eq_ne (parent_of ps i) 255)
     (λ e. let k : None ≡ Some a = rw (eq-eqb _ _ e) at h in search rules)

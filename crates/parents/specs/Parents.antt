@@ -1,6 +1,6 @@
 -- The parents' section, the third of a sheet, which may be left out (document 02, item 6): a count of one byte, which is n, then one parent
 -- byte for each joint, 255 for a root, otherwise a lower joint number. Refusals 1, 8 and 18.
-use Rattle.std.specs.Prelude.{Bool, cond, Option, Some, None, not, ◌&&◌, ◌||◌, List, [], ◌∷◌, ℕ, eqb, ltb, leb, length, get_or, drop}
+use Rattle.std.specs.Prelude.{Bool, not, ◌&&◌, ◌||◌, List, [], ◌∷◌, ℕ, eqb, ltb, leb, length, get_or, drop}
 use Rattle.base.specs.Below.{any_below}
 use Rattle.base.specs.Faults.{when, first_fault}
 
@@ -14,10 +14,6 @@ parent_of ps i = get_or ps i root
 
 abbrev pub is_root : List ℕ → ℕ → Bool
 is_root ps i = eqb (parent_of ps i) root
-
--- the parent of a joint that is no root
-abbrev pub parent_in : List ℕ → ℕ → Option ℕ
-parent_in ps i = cond (is_root ps i) None (Some (parent_of ps i))
 
 -- neither 255 nor lower
 abbrev pub bad_parent : List ℕ → ℕ → Bool

@@ -8,7 +8,7 @@ mod prices;
 mod tariffs;
 mod walks;
 
-ghost use Rattle.std.specs.Prelude.{◌<◌, ◌≤◌};
+ghost use Rattle.std.specs.Prelude.{◌<◌};
 
 use arrayvec::ArrayVec;
 use calls::{End, Phase};

@@ -1,8 +1,9 @@
 // Records steer a working: definitions in specs/, theorems in proofs/. The crates above have the code. Both speak of a record.
 #![tactic(auto)]
 
-ghost use Rattle.std.specs.Prelude.{◌≡◌, ◌≤◌, MatchResult};
+ghost use Rattle.std.specs.Prelude.{◌≡◌, ◌≤◌, get_or, MatchResult};
 ghost use Rattle.refusals.specs.declared.Refusal.TheVariants.{BadRecord};
+ghost use Rattle.records.specs.Records.{record_of};
 ghost use Rattle.records.specs.Choices.{recorded};
 
 use refusals::Refusal;
@@ -12,6 +13,15 @@ use refusals::Refusal;
 pub struct Record {
     pub kind: u8,
     pub number: u8,
+}
+
+impl From<[u8; 2]> for Record {
+    ghost from_gives = { λ bytes r. r ≡ record_of (get_or bytes 0 0) (get_or bytes 1 0) };
+
+    fn from(bytes: [u8; 2]) -> Record {
+        let [kind, number] = bytes;
+        Record { kind, number }
+    }
 }
 
 // What a record says: a joint is chosen, a mark is set, or returned to.

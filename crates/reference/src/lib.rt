@@ -1,7 +1,7 @@
 // What a pairing of up to 8 joints is worth, straight from the definition, and every matching, for the test programs.
 #![tactic(auto)]
 
-ghost use Rattle.std.specs.Prelude.{◌<◌, ◌≤◌};
+ghost use Rattle.std.specs.Prelude.{◌<◌};
 
 use arrayvec::ArrayVec;
 use samples::Bands;

@@ -1,5 +1,6 @@
-// How many joints there are.
-ghost use Rattle.std.specs.Prelude.{◌≡◌, ◌≤◌, ◌<◌, MatchResult};
+// How many joints there are, and bytes that name them.
+ghost use Rattle.std.specs.Prelude.{◌≡◌, ◌≤◌, ◌<◌, length, MatchResult};
+ghost use Rattle.sections.specs.Joints.{joint_in};
 ghost use Rattle.refusals.specs.declared.Refusal.TheVariants.{TooManyJoints};
 
 use refusals::Refusal;
@@ -25,5 +26,21 @@ impl TryFrom<u8> for Joints {
         } else {
             Err(Refusal::TooManyJoints)
         }
+    }
+}
+
+// The byte of no joint.
+const NO_JOINT: u8 = 255;
+
+// The joint that byte i names: an unpaired joint has no partner, and a root no parent.
+pub fn joint_in(bytes: &[u8], i: usize) -> Option<usize>
+    requires { i < length bytes.now }
+    ensures { result ≡ joint_in bytes.now i }
+{
+    let joint = bytes[i];
+    if joint == NO_JOINT {
+        None
+    } else {
+        Some(usize::from(joint))
     }
 }

@@ -11,7 +11,7 @@ use refusals::Refusal;
 fn is_visible(b: u8) -> bool
     ensures { result ≡ visible b }
 {
-    33 <= b && b <= 126
+    b.is_ascii_graphic()
 }
 
 // How many visible bytes a label begins with.

@@ -78,8 +78,7 @@ pub fn lists(sheet: &[u8], bands: &mut [[u8; 128]; 128]) -> Result<Parts, Refusa
     Ok(parts)
 }
 
-// Reads a whole sheet, with the square of its mutual listings: the way in for every crate above.
-// Every input is accepted, or refused with the first number that applies.
+// Reads a whole sheet, with the square of its mutual listings. Every input is accepted, or refused with the first number that applies.
 pub fn read(sheet: &[u8]) -> Result<Sheet, Refusal>
     ensures { MatchResult result (λ read. ReadsAs sheet.now read) (λ refusal. reading_of sheet.now ≡ Err refusal) }
 {

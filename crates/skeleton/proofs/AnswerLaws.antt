@@ -1,6 +1,6 @@
 -- The answer of follow, one law for each way that the code takes.
 use mathlib.Core.Path.{◌≡◌, refl, sym, ap, ◌∙◌}
-use mathlib.Core.Bool.{Bool, true, false}
+use mathlib.Core.Bool.{true, false}
 use mathlib.Core.List.{List, [], ◌∷◌}
 use mathlib.Core.Logic.{◌≢◌}
 use Prim.Native.Nat.{ℕ, ◌≤◌, ◌<◌}
@@ -9,12 +9,13 @@ use lib.Dec.{ltb}
 use lib.ListN.{length}
 use borrow.Author.Tests.{eq-eqb, ne_eqb, lt-ltb, le-ltb}
 use Rattle.std.specs.Prelude.{Option, Some, None, Result, Ok, Err}
-use Rattle.base.specs.Below.{lowest, first_below}
+use Rattle.base.specs.Below.{first_below}
 use Rattle.base.specs.Faults.{first_fault}
 use Rattle.base.proofs.Cases.{case, lt_ge, unlike}
 use Rattle.base.proofs.CountBelow.{count_one}
 use Rattle.base.proofs.Faults.{fault_stops, fault_passes, last_fault}
 use Rattle.base.proofs.Lowest.{lowest_passes}
+use Rattle.base.proofs.FirstBelow.{first_found}
 use Rattle.refusals.specs.declared.Refusal.{Refusal}
 use Rattle.refusals.specs.declared.Refusal.TheVariants.{NoPairingOffered, BadParents}
 use Rattle.refusals.specs.Numbers.{answered}
@@ -36,19 +37,6 @@ use Rattle.skeleton.specs.Following.{is_stray, stray_count, stray_number, lowest
 use Rattle.skeleton.specs.Answers.{astray_by, followed, own_faults, follow_lists, follow_faults, follow_of}
 use Rattle.skeleton.proofs.FollowLaws.{stray_is, stray_found}
 
--- THE LOWEST, if there is one
-module _ (n : ℕ) (test : ℕ → Bool) where
-  first_none : None ≡ first_below n test → n ≤ lowest n test
-  first_none e = case (lt_ge (lowest n test) n) (λ l. let no : None ≡ Some (lowest n test) = rw (lt-ltb (lowest n test) n l) at e in absurd (unlike cc)) (λ g. g)
-
-  first_is : {b : ℕ} → Some b ≡ first_below n test → (b ≡ lowest n test) × (b < n)
-  first_is {b} e = case (lt_ge (lowest n test) n)
-      (λ l.
-      let same : Some b ≡ Some (lowest n test) = rw (lt-ltb (lowest n test) n l) at e in
-      let here : b ≡ lowest n test = cc in
-      (here, omega arith))
-      (λ g. let no : Some b ≡ None = rw (le-ltb (lowest n test) n g) at e in absurd (unlike cc))
-
 -- THE PAIRS
 module _ (ps m : List ℕ) where
   pub all_follow : stray_count ps m ≡ 0 → None ≡ followed ps m
@@ -63,17 +51,17 @@ module _ (ps m : List ℕ) where
   -- no joint is the higher one of a pair that does not follow
   pub none_astray : None ≡ first_below (length m) (is_stray ps m) → None ≡ followed ps m
   none_astray e =
-      let past = first_none (length m) (is_stray ps m) e in
+      let past = first_found (length m) (is_stray ps m) e in
       all_follow (case (lt_ge 0 (stray_count ps m)) (λ some. let low = (stray_found ps m some).0 in absurd (omega arith)) (λ z. omega arith))
 
   -- b is, so it has a partner, and the pair's number is the lowest
   pub stray_joint : {b : ℕ} → Some b ≡ first_below (length m) (is_stray ps m)
       → (b ≡ lowest_stray ps m) × (b < length m) × (partner m b < b) × (stray_count ps m ≢ 0)
   stray_joint {b} e =
-      let at = first_is (length m) (is_stray ps m) e in
+      let at = first_found (length m) (is_stray ps m) e in
       let low : lowest_stray ps m < length m = omega (arith, at.0, at.1) in
-      let stray : is_stray ps m b ≡ true = rw at.0 (lowest_passes (length m) (is_stray ps m) low) in
-      (at.0, at.1, (stray_is ps m b stray).0, λ z. let one = count_one (length m) (is_stray ps m) b at.1 stray in omega arith)
+      let stray : is_stray ps m b ≡ true = rw at.1 (lowest_passes (length m) (is_stray ps m) low) in
+      (at.1, at.0, (stray_is ps m b stray).0, λ z. let one = count_one (length m) (is_stray ps m) b at.0 stray in omega arith)
 
   pub stray_paired : {b : ℕ} → Some b ≡ first_below (length m) (is_stray ps m) → length m ≤ 128 → None ≡ partner_of m b → ⊥
   stray_paired {b} e few alone = let j = stray_joint e in let u = partner_none m b alone in omega (arith, u, j.1, j.2)

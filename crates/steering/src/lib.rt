@@ -30,11 +30,7 @@ fn follow(working: &mut Working, records: &[[u8; 2]]) -> Result<(), Refusal>
     }
     let mut marks = [None; 8];
     for record in records {
-        let record = Record {
-            kind: record[0],
-            number: record[1],
-        };
-        act(record, working, &mut marks)?;
+        act(Record::from(*record), working, &mut marks)?;
     }
     Ok(())
 }

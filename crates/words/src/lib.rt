@@ -4,7 +4,6 @@
 mod counts;
 
 ghost use Rattle.std.specs.Prelude.{◌≡◌, true, false, ℕ, ◌<◌, ◌≤◌, length, slice_index};
-ghost use Rattle.sections.specs.Labels.{same_bytes};
 ghost use Rattle.words.specs.Words.{is_gap, run, words};
 ghost use Rattle.words.specs.Met.{keyword, any_words, Next, Reaches};
 

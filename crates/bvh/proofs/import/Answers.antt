@@ -7,6 +7,19 @@ use Rattle.bvh.proofs.ImportLaws.{import_refused, read_writable, import_short, i
 use Rattle.bvh.proofs.import.Goals as goal
 use Rattle.bvh.proofs.import.Goals.{After-new-sheet}
 
+-- there is room for the sheet
+fits : (c : After-new-sheet) → length (sheet_for (gathered c.as_slice-joints.result.now)) ≤ length c.args.out.now
+fits c =
+    let size = rw c.as_slice-joints.ensures at c.size_of-size.ensures in
+    let long = sheet_size (read_writable c.in_ok-hierarchy.hierarchy.joints.good c.in_ok-hierarchy.ensures) in
+    rw c.as_slice-joints.ensures (omega (arith, size, long, c.if-out-size.false))
+
+pub write_sheet-requires : goal.write_sheet-requires
+write_sheet-requires c =
+    let new = c.new-sheet.ensures in
+    let room = new_room {w = c.new-sheet.result} new.bytes new.start (fits (goal.at.write_sheet-requires c).After-new-sheet) in
+    (rw c.as_slice-joints.ensures (read_writable c.in_ok-hierarchy.hierarchy.joints.good c.in_ok-hierarchy.ensures), room)
+
 pub returns-in_err-hierarchy : goal.returns-in_err-hierarchy
 returns-in_err-hierarchy c =
     let passed : c.from_residual.result ≡ Err c.in_err-hierarchy.field-0.0 = search rules in
@@ -19,25 +32,10 @@ returns-then-out-size c =
     let says = import_short c.in_ok-hierarchy.hierarchy.joints.good c.in_ok-hierarchy.ensures c.args.out.now _ size c.if-out-size.true in
     record { value = says.0; out_after = says.1 }
 
--- there is room for the sheet
-fits : (c : After-new-sheet) → length (sheet_for (gathered c.as_slice-joints.result.now)) ≤ length c.args.out.now
-fits c =
-    let size = rw c.as_slice-joints.ensures at c.size_of-size.ensures in
-    let long = sheet_size (read_writable c.in_ok-hierarchy.hierarchy.joints.good c.in_ok-hierarchy.ensures) in
-    rw c.as_slice-joints.ensures (omega (arith, size, long, c.if-out-size.false))
-
-pub write_sheet-requires : goal.write_sheet-requires
-write_sheet-requires c =
-    let writable = read_writable c.in_ok-hierarchy.hierarchy.joints.good c.in_ok-hierarchy.ensures in
-    let room = fits (goal.at.write_sheet-requires c).After-new-sheet in
-    (rw c.as_slice-joints.ensures writable, new_room {w = c.new-sheet.result} c.new-sheet.ensures.bytes c.new-sheet.ensures.start room)
-
 pub returns : goal.returns
 returns c =
+    let new = c.new-sheet.ensures in
     let size = rw c.as_slice-joints.ensures at c.size_of-size.ensures in
-    let room = fits (goal.at.returns c).After-new-sheet in
-    let put = new_puts c.new-sheet.ensures.bytes c.new-sheet.ensures.start room c.write_sheet.ensures in
-    let wrote = rw c.as_slice-joints.ensures at put.1 in
-    let found = c.in_ok-hierarchy in
-    let says = import_written found.hierarchy.joints.good found.ensures c.args.out.now _ _ size c.if-out-size.false wrote in
+    let wrote = rw c.as_slice-joints.ensures at (new_puts new.bytes new.start (fits (goal.at.returns c).After-new-sheet) c.write_sheet.ensures).1 in
+    let says = import_written c.in_ok-hierarchy.hierarchy.joints.good c.in_ok-hierarchy.ensures c.args.out.now _ _ size c.if-out-size.false wrote in
     record { value = says.0; out_after = (search rules) ∙ says.1 }

@@ -3,6 +3,9 @@ use Rattle.std.proofs.Common.{arith}
 use Rattle.listing.proofs.SheetTexts.{text_fault, listed_sheet}
 use Rattle.listing.proofs.write_sheet.Goals as goal
 
+pub returns-in-Err : goal.returns-in-Err
+returns-in-Err c = rw (text_fault c.args.sheet.now _ c.in-Err.ensures) c.write_refused.ensures
+
 pub new-opened-requires : goal.new-opened-requires
 new-opened-requires c = let l = (listed_sheet c.args.sheet.now c.in-Ok.found c.in-Ok.ensures).labelled in (omega arith, omega arith)
 
@@ -14,9 +17,6 @@ list_lists-requires c =
 
 pub write_refused-requires : goal.write_refused-requires
 write_refused-requires c = rw (text_fault c.args.sheet.now _ c.in-Err.ensures) at c.requires
-
-pub returns-in-Err : goal.returns-in-Err
-returns-in-Err c = rw (text_fault c.args.sheet.now _ c.in-Err.ensures) c.write_refused.ensures
 
 pub returns-in-Ok : goal.returns-in-Ok
 returns-in-Ok c =

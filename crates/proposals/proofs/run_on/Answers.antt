@@ -3,7 +3,7 @@ use native.Mathlib.Omega.{arith}
 use native.Mathlib.Nat.{sub-zero}
 use Rattle.roommates.specs.declared.Stage.TheVariants.{Proposing}
 use Rattle.roommates.specs.PhaseOne.{nobody}
-use Rattle.ruling.proofs.FirstBelow.{first_found}
+use Rattle.base.proofs.FirstBelow.{first_found}
 use Rattle.proposals.proofs.LawsPhaseOne.{square_small, step_few, run_ends, run_steps, turns_over, all_turns}
 use Rattle.proposals.proofs.run_on.Goals as goal
 

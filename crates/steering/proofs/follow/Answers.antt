@@ -20,22 +20,24 @@ loop-record-init c =
 pub returns-in_err-act-clause-followed : goal.returns-in_err-act-clause-followed
 returns-in_err-act-clause-followed c =
     let back : c.from_residual.result ≡ Err c.in_err-act.field-0.0 = search rules in
+    let acts = rw c.from.ensures at c.in_err-act.ensures.acts in
     rw back (
     stops_at c.loop-record.working c.act.new.working c.loop-record.marks c.act.new.marks _ _ c.loop-record-test.true _
-    (λ z. omega (arith, z, number_some c.in_err-act.field-0.0)) c.in_err-act.ensures.acts
+    (λ z. omega (arith, z, number_some c.in_err-act.field-0.0)) acts
     ∙ c.loop-record.invariant.1.1
     )
 
 pub loop-record-preserved : goal.loop-record-preserved
-loop-record-preserved c = (
-  c.act.ensures.lawful,
-  (
-    c.act.ensures.task ∙ c.loop-record.invariant.1.0,
-    goes_on c.loop-record.working c.act.new.working c.loop-record.marks c.act.new.marks _ _ c.loop-record-test.true c.act.ensures.task
-        c.in_ok-act.ensures.acts
-        ∙ c.loop-record.invariant.1.1,
-  ),
-)
+loop-record-preserved c =
+    let acts = rw c.from.ensures at c.in_ok-act.ensures.acts in (
+      c.act.ensures.lawful,
+      (
+        c.act.ensures.task ∙ c.loop-record.invariant.1.0,
+        goes_on c.loop-record.working c.act.new.working c.loop-record.marks c.act.new.marks _ _ c.loop-record-test.true c.act.ensures.task
+            acts
+            ∙ c.loop-record.invariant.1.1,
+      ),
+    )
 
 pub returns-clause-followed : goal.returns-clause-followed
 returns-clause-followed c = none_left _ _ c.loop-record-test.false c.loop-record.working _ ∙ c.loop-record.invariant.1.1

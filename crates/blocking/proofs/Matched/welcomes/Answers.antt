@@ -3,8 +3,8 @@ use Rattle.std.proofs.Common.{◌<◌, arith}
 use Rattle.matching.proofs.MatchingTest.{as_many, joint_some}
 use Rattle.blocking.proofs.Matched.welcomes.Goals as goal
 
-pub partner-requires : goal.partner-requires
-partner-requires c = omega (arith, as_many _ _ _ c.args.self.now.matching)
+pub joint_in-requires : goal.joint_in-requires
+joint_in-requires c = omega (arith, as_many _ _ _ c.args.self.now.matching)
 
 pub bounds-self-p : goal.bounds-self-p
 bounds-self-p c =

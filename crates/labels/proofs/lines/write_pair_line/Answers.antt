@@ -1,4 +1,4 @@
-use Rattle.std.proofs.Common.{[], ◌∷◌}
+use Rattle.std.proofs.Common.{[], ◌∷◌, arith}
 use Rattle.writing.proofs.Writers.{puts_append, room_front, room_behind}
 use Rattle.labels.specs.Lines.{label_line, pair_line}
 use Rattle.labels.proofs.lines.write_pair_line.Goals as goal
@@ -13,7 +13,7 @@ put-requires c = room_front {a = 32 ∷ []} (label_line c.args.second.now) (room
 
 pub write_label_line-requires : goal.write_label_line-requires
 unfolding pair_line
-write_label_line-requires c = room_behind (room_behind c.requires c.write_label.ensures) c.put.ensures
+write_label_line-requires c = record { fits = omega (arith, (room_behind (room_behind c.requires c.write_label.ensures) c.put.ensures).fits) }
 
 pub returns : goal.returns
 unfolding pair_line

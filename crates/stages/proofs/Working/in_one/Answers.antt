@@ -1,5 +1,5 @@
 -- Phase one goes on or ends.
-use Rattle.ruling.proofs.FirstBelow.{first_found}
+use Rattle.base.proofs.FirstBelow.{first_found}
 use Rattle.stages.proofs.LawsStages.{one_ends, one_goes_on}
 use Rattle.stages.proofs.Working.in_one.Goals as goal
 
