@@ -4,7 +4,8 @@ ghost use Rattle.sections.specs.Labels.{label_at};
 
 use sections::LABEL_WIDTH;
 
-// The lent bytes, and where the labels and the rankings begin in them.
+// The lent bytes, and where the labels and the rankings begin in them. Places and no slices: document 01's form, lent bytes and where each
+// section begins.
 #[derive(Clone, Copy)]
 pub struct Opened<'a> {
     pub bytes: &'a [u8],

@@ -8,29 +8,16 @@ ghost use Rattle.refusals.specs.Numbers.{number_of};
 ghost use Rattle.sections.specs.Labels.{label_at};
 ghost use Rattle.calls.specs.Calls.{phase_number};
 ghost use Rattle.writing.specs.Written.{HasRoom, Puts, over};
-ghost use Rattle.listing.specs.Text.{Labelled, Listable, pairing_text, none_text, refused_text};
+ghost use Rattle.listing.specs.Text.{Labelled, none_text, refused_text};
 ghost use Rattle.listing.specs.Sheets.{lists_text, sheet_text};
 
 use calls::settling::settle_lists;
 use calls::{End, Phase};
 use labels::opened::Opened;
-use matching::count_paired;
+use lines::Listing;
 use refusals::Refusal;
 use sheet::Rankings;
 use writing::Writer;
-
-// A pairing of the joints whose labels lie on the sheet.
-fn write_pairing(opened: Opened, partners: &[u8], out: &mut Writer<'_>)
-    requires listable { Listable opened.bytes.now opened.labels opened.rankings partners.now }
-    requires room { HasRoom out.old (pairing_text (label_at opened.bytes.now opened.labels) partners.now) }
-    ensures { Puts out.old (pairing_text (label_at opened.entry.bytes.now opened.entry.labels) partners.now) out.new }
-{
-    let paired = count_paired(partners);
-    out.number_line(b"pairs ", paired / 2);
-    lines::write_pairs(opened, partners, out);
-    out.number_line(b"alone ", partners.len() - paired);
-    lines::write_alone(opened, partners, out);
-}
 
 // No pairing, with the phase.
 fn write_none(phase: Phase, out: &mut Writer<'_>)
@@ -57,7 +44,13 @@ fn list_lists(opened: Opened, rankings: &Rankings, out: &mut Writer<'_>)
     let n = rankings.joints.count;
     let mut partners = [0u8; 128];
     match settle_lists(rankings, b"", &mut partners) {
-        Ok(End::Paired(_)) => write_pairing(opened, &partners[..n], out),
+        Ok(End::Paired(_)) => {
+            let listing = Listing {
+                opened,
+                partners: &partners[..n],
+            };
+            listing.write_pairing(out)
+        }
         Ok(End::None(phase)) => write_none(phase, out),
         Err(refused) => write_refused(refused, out),
     }

@@ -10,16 +10,16 @@ paired c =
     paired_lists _ _ _
     (sym c.settle_lists.ensures.value ∙ c.in-Ok-Paired.is ∙ ap Ok c.in-Ok-Paired.field-0-is) c.settle_lists.ensures.out_after
 
-pub slice_bounds-write_pairing-end : goal.slice_bounds-write_pairing-end
-slice_bounds-write_pairing-end c = sym (paired (goal.at.slice_bounds-write_pairing-end c).In-Ok-Paired).size
+pub slice_bounds-listing-end : goal.slice_bounds-listing-end
+slice_bounds-listing-end c = sym (paired (goal.at.slice_bounds-listing-end c).In-Ok-Paired).size
 
-pub write_pairing-requires-clause-listable : goal.write_pairing-requires-clause-listable
-write_pairing-requires-clause-listable c =
-    let p = paired (goal.at.write_pairing-requires-clause-listable c).In-Ok-Paired in
-    record { labelled = rw p.size c.requires.labelled; within = rw p.size p.within }
+pub invariant_of-listing : goal.invariant_of-listing
+invariant_of-listing c =
+    let p = paired (goal.at.invariant_of-listing c).In-Ok-Paired in
+    record { listable = record { labelled = rw p.size c.requires.labelled; within = rw p.size p.within } }
 
-pub write_pairing-requires-clause-room : goal.write_pairing-requires-clause-room
-write_pairing-requires-clause-room c = rw (paired (goal.at.write_pairing-requires-clause-room c).In-Ok-Paired).text at c.requires.room
+pub write_pairing-requires : goal.write_pairing-requires
+write_pairing-requires c = rw (paired (goal.at.write_pairing-requires c).In-Ok-Paired).text at c.requires.room
 
 pub returns-in-Ok-Paired : goal.returns-in-Ok-Paired
 returns-in-Ok-Paired c = rw (paired (goal.at.returns-in-Ok-Paired c).In-Ok-Paired).text c.write_pairing.ensures

@@ -7,4 +7,6 @@ returns c =
     let w = c.args.self.now in
     let word = c.args.word.now in
     let size : w.at + length word - w.at ≡ length word = omega arith in
-    record { wrote = rw (c.copy_from_slice.ensures.after, size) (copied_wrote w.bytes.now word w.at c.requires.fits); same_buffer = refl }
+    let copied = (copied_wrote w.bytes.now word w.at c.requires.fits).buffer in
+    let after = c.copy_from_slice.ensures.after in
+    record { wrote = record { buffer = cc; behind = refl }; same_buffer = refl }

@@ -7,8 +7,7 @@ pub returns : goal.returns
 returns c =
     let w = c.args.self.now in
     let count = c.args.count in
-    let text = replicate {A = ℕ} count 0 in
     let size : w.at + count - w.at ≡ count = omega arith in
-    let zeros : c.fill.new.self ≡ text = search rules in
-    let copied = rw length-replicate at (copied_wrote w.bytes.now text w.at c.requires.fits) in
-    record { wrote = rw (zeros, size) copied; same_buffer = refl }
+    let copied = rw length-replicate at (copied_wrote w.bytes.now (replicate {A = ℕ} count 0) w.at c.requires.fits) in
+    let buffer = copied.buffer in
+    record { wrote = record { buffer = search rules; behind = copied.behind }; same_buffer = refl }

@@ -2,7 +2,7 @@ use Rattle.base.specs.Below.{joined}
 use Rattle.sections.specs.Labels.{label_at}
 use Rattle.writing.specs.Written.{Puts}
 use Rattle.listing.specs.Text.{pair_part}
-use Rattle.listing.proofs.lines.write_pairs.Given as goal
+use Rattle.listing.proofs.lines.Listing.write_pairs.Given as goal
 
 abbrev pub invariant-loop-i : goal.invariant-loop-i
-invariant-loop-i l = Puts l.initial.out (joined l.i (pair_part (label_at l.opened.bytes.now l.opened.labels) l.partners)) l.out
+invariant-loop-i l = Puts l.initial.out (joined l.i (pair_part (label_at l.self.opened.bytes.now l.self.opened.labels) l.self.partners.now)) l.out
