@@ -1,6 +1,6 @@
 // What the program counts, and prints at its end.
 use std::fmt;
-use tally::{Comparisons, add};
+use tally::{Comparisons, Refusals, add};
 
 // The three parts of the test: the one text with every change, and with every cut, and random texts.
 #[derive(Clone, Copy)]
@@ -10,33 +10,40 @@ pub enum Part {
     Random,
 }
 
-// Texts of one part; sheets written, their joints, their parents summed; refused by 2, 9, 19, 20 and any other number.
-#[derive(Clone, Copy, Default)]
+// Texts of one part; sheets written, their joints, their parents summed; and texts refused.
+#[derive(Clone, Copy)]
 struct Sums {
     texts: u32,
     sheets: u32,
     joints: u32,
     parents: u32,
-    refused: [u32; 5],
+    refused: Refusals<4>,
 }
 
-const REFUSALS: [u8; 4] = [2, 9, 19, 20];
+impl Default for Sums {
+    fn default() -> Sums {
+        Sums {
+            texts: 0,
+            sheets: 0,
+            joints: 0,
+            parents: 0,
+            refused: Refusals::new([2, 9, 19, 20]),
+        }
+    }
+}
 
 impl Sums {
     // What is said of a text whose joints have these parents.
     fn note(&mut self, said: Result<usize, u8>, parents: &[u8]) {
         add(&mut self.texts, 1);
-        let Err(number) = said else {
-            add(&mut self.sheets, 1);
-            for parent in parents {
-                add(&mut self.joints, 1);
-                add(&mut self.parents, u32::from(*parent));
-            }
+        if let Err(number) = said {
+            self.refused.note(number);
             return;
-        };
-        let place = REFUSALS.iter().position(|k| *k == number).unwrap_or(4);
-        if let Some(count) = self.refused.get_mut(place) {
-            add(count, 1);
+        }
+        add(&mut self.sheets, 1);
+        for parent in parents {
+            add(&mut self.joints, 1);
+            add(&mut self.parents, u32::from(*parent));
         }
     }
 }
@@ -45,13 +52,9 @@ impl fmt::Display for Sums {
     fn fmt<W: fmt::Write>(&self, f: &mut fmt::Formatter<W>) -> fmt::Result {
         write!(
             f,
-            "{} {} {} {}",
-            self.texts, self.sheets, self.joints, self.parents
-        )?;
-        for count in self.refused {
-            write!(f, " {count}")?;
-        }
-        Ok(())
+            "{} {} {} {}{} {}",
+            self.texts, self.sheets, self.joints, self.parents, self.refused, self.refused.others
+        )
     }
 }
 

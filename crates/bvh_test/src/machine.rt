@@ -28,14 +28,13 @@ enum Due {
 // A count above this one is as good as this one, since no text has so many words.
 const MOST: usize = 20000;
 
-// What must come next, and how many words of any kind come before it; how many blocks are open, and the last of them, 255 for none; and the
-// joints that were met, with their parents.
+// What must come next, and how many words of any kind come before it; the joints whose blocks are open, the outermost first; and the joints
+// that were met, with their parents.
 #[derive(Drop)]
 pub struct Machine {
     due: Due,
     left: usize,
-    depth: usize,
-    own: u8,
+    open: ArrayVec<u8, 32>,
     labels: ArrayVec<Label, 128>,
     pub parents: ArrayVec<u8, 128>,
 }
@@ -69,8 +68,7 @@ impl Machine {
         Machine {
             due: Due::Hierarchy,
             left: 0,
-            depth: 0,
-            own: 255,
+            open: ArrayVec::new(),
             labels: ArrayVec::new(),
             parents: ArrayVec::new(),
         }
@@ -112,10 +110,10 @@ impl Machine {
         self.due = match (self.due, word) {
             (Due::Hierarchy, b"HIERARCHY") => Due::FirstRoot,
             (Due::FirstRoot | Due::RootOrMotion, b"ROOT") | (Due::Inside, b"JOINT") => {
-                if self.depth < 32 {
-                    Due::Name
-                } else {
+                if self.open.is_full() {
                     Due::Refused(19)
+                } else {
+                    Due::Name
                 }
             }
             (Due::RootOrMotion, b"MOTION") => Due::Done,
@@ -140,20 +138,15 @@ impl Machine {
 
     // The last open block is closed.
     fn closed(&mut self) -> Due {
-        self.own = self
-            .parents
-            .get(usize::from(self.own))
-            .copied()
-            .unwrap_or(255);
-        self.depth = self.depth.saturating_sub(1);
-        if self.depth == 0 {
+        let _ = self.open.pop();
+        if self.open.is_empty() {
             Due::RootOrMotion
         } else {
             Due::Inside
         }
     }
 
-    // A name is met: its block is the last that is open.
+    // A name is met: its parent is the last joint whose block is open, or 255, the byte that a sheet has for a root.
     fn name(&mut self, word: &[u8]) {
         let joints = self.labels.len();
         if 128 <= joints {
@@ -166,10 +159,10 @@ impl Machine {
             return;
         };
         let _ = self.labels.try_push(label);
-        let _ = self.parents.try_push(self.own);
+        let parent = self.open.last().copied().unwrap_or(255);
+        let _ = self.parents.try_push(parent);
+        let _ = self.open.try_push(joints as u8);
         self.due = Due::Brace;
-        self.depth = self.depth.saturating_add(1);
-        self.own = joints as u8;
     }
 
     // What a text ends with: the number of its refusal.

@@ -43,6 +43,7 @@ fn room_of(number: u32, length: usize) -> usize
 }
 
 // What import answers: the sheet's length, or the number of a refusal.
+// Refusals are the documents' numbers, and not the library's names, so that a wrong number there is seen.
 fn imported(text: &[u8], out: &mut [u8]) -> Result<usize, u8> {
     import(text, out).map_err(u8::from)
 }

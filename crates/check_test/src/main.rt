@@ -2,12 +2,12 @@
 // beside a reference written straight from the definition; and the number of every pair of 128 joints, counted one after another.
 #![tactic(auto)]
 
-ghost use Rattle.std.specs.Prelude.{◌<◌, ◌≤◌};
+ghost use Rattle.std.specs.Prelude.{◌<◌};
 
 use offered::check;
-use reference::{NONE, Pairing, Verdict, worth};
+use reference::{NONE, Pairing, worth};
 use samples::{
-    Bands, LongSheet, Sheet, Style, drawn_sheet, is_one_sided, long_labels, put, sheet_of,
+    Bands, Joints, LongSheet, Sheet, Style, drawn_sheet, is_one_sided, long_labels, put, sheet_of,
 };
 use std::{fmt, io};
 use tally::{Comparisons, add};
@@ -40,8 +40,9 @@ const ROW_G: Bands = [
     [0; 8],
 ];
 
-// A verdict, or the number of a refusal.
-type Answer = Result<Verdict, u8>;
+// The number of the lowest pair that blocks, None where nobody does; or a refusal. Refusals are the documents' numbers, and not the library's
+// names, so that a wrong number there is seen.
+type Answer = Result<Option<u32>, u8>;
 
 #[derive(Default, Drop)]
 struct Counts {
@@ -60,8 +61,8 @@ struct Counts {
 impl Counts {
     fn note(&mut self, said: Answer) {
         match said {
-            Ok(Verdict::Stable) => add(&mut self.held, 1),
-            Ok(Verdict::Blocked(_)) => add(&mut self.blocked, 1),
+            Ok(None) => add(&mut self.held, 1),
+            Ok(Some(_)) => add(&mut self.blocked, 1),
             Err(_) => add(&mut self.refused, 1),
         }
     }
@@ -89,29 +90,23 @@ impl fmt::Display for Counts {
 
 // What check answers.
 fn checked(sheet: &[u8], pairing: &[u8]) -> Answer {
-    match check(sheet, pairing) {
-        Ok(None) => Ok(Verdict::Stable),
-        Ok(Some(number)) => Ok(Verdict::Blocked(number)),
-        Err(refusal) => Err(u8::from(refusal)),
-    }
+    check(sheet, pairing).map_err(u8::from)
 }
 
 // An answer as it is printed.
 fn number_of(said: Answer) -> u32 {
     match said {
-        Ok(Verdict::Stable) => 500,
-        Ok(Verdict::Blocked(number)) => number.wrapping_add(1000),
+        Ok(None) => 500,
+        Ok(Some(number)) => number.wrapping_add(1000),
         Err(number) => u32::from(number),
     }
 }
 
 // The digits of v to the base 7, lowest first, with 255 for 6; 255 past the first n.
-fn vector(v: u32, n: usize) -> Pairing
-    requires { n ≤ 8 }
-{
+fn vector(v: u32, n: Joints) -> Pairing {
     let mut m = [NONE; 8];
     let mut rest = v;
-    for i in 0..n {
+    for i in 0..n.count {
         let digit = rest % 7;
         rest /= 7;
         if digit < 6 {
@@ -124,14 +119,12 @@ fn vector(v: u32, n: usize) -> Pairing
 // Compares check with the reference on every vector for a sheet.
 fn try_vectors(counts: &mut Counts, round: u32, sheet: &Sheet) {
     let n = sheet.n;
-    for v in 0..VECTORS[n] {
+    for v in 0..VECTORS[n.count] {
         let m = vector(v, n);
-        let said = checked(&sheet.bytes, &m[..n]);
+        let said = checked(&sheet.bytes, &m[..n.count]);
         counts.note(said);
-        let due = worth(&sheet.bands, &m).ok_or(10);
-        counts
-            .comparisons
-            .compare("the verdict", round, said == due);
+        let agrees = said == worth(&sheet.bands, &m);
+        counts.comparisons.compare("the verdict", round, agrees);
     }
 }
 
@@ -148,7 +141,10 @@ fn style(round: u32) -> Style {
 // Random sheets of 0 to 6 joints.
 fn try_rounds(counts: &mut Counts) {
     for round in 0..ROUNDS {
-        let sheet = drawn_sheet((round % 7) as usize, 61 * round, style(round));
+        let n = Joints {
+            count: (round % 7) as usize,
+        };
+        let sheet = drawn_sheet(n, 61 * round, style(round));
         add(&mut counts.sheets, 1);
         add(&mut counts.one_sided, u32::from(is_one_sided(&sheet.bands)));
         try_vectors(counts, round, &sheet);
@@ -175,7 +171,7 @@ fn try_pairs(counts: &mut Counts) {
             let said = checked(&sheet_of_pair(&labels, a, b), &[NONE; 128]);
             let before = counts.pairs;
             add(&mut counts.pairs, 1);
-            let agrees = said == Ok(Verdict::Blocked(before));
+            let agrees = said == Ok(Some(before));
             counts
                 .comparisons
                 .compare("the number of a pair", before, agrees);
@@ -191,7 +187,7 @@ fn main(rt: HostRuntime) -> io::Result<()> {
     println!(rt;
         "answers (500 holds, a refusal's number, 1000 and the number of the lowest pair that blocks)"
     )?;
-    let sheet = sheet_of(4, ROW_G);
+    let sheet = sheet_of(Joints { count: 4 }, ROW_G);
     for (name, pairing) in OFFERED {
         println!(rt; "{name}: {}", number_of(checked(&sheet.bytes, pairing)))?;
     }

@@ -2,7 +2,7 @@
 use crate::Answer;
 use calls::{End, Phase};
 use std::fmt;
-use tally::{Comparisons, add};
+use tally::{Comparisons, Refusals, add};
 
 // Quotes of one part, and their answers summed.
 #[derive(Clone, Copy, Default)]
@@ -24,7 +24,7 @@ impl fmt::Display for Part {
     }
 }
 
-#[derive(Default, Drop)]
+#[derive(Drop)]
 pub struct Counts {
     pub comparisons: Comparisons,
     pub pairs: Part,
@@ -32,7 +32,21 @@ pub struct Counts {
     payable: u32,
     none_one: u32,
     none_two: u32,
-    refused: [u32; 17],
+    refused: Refusals<17>,
+}
+
+impl Default for Counts {
+    fn default() -> Counts {
+        Counts {
+            comparisons: Comparisons::default(),
+            pairs: Part::default(),
+            sheets: Part::default(),
+            payable: 0,
+            none_one: 0,
+            none_two: 0,
+            refused: Refusals::new([1, 2, 3, 4, 5, 6, 7, 8, 9, 10, 11, 12, 13, 14, 15, 16, 17]),
+        }
+    }
 }
 
 // An answer as one number: that of a refusal, 101 or 102 for none with its phase, 1000 and the sum.
@@ -52,11 +66,7 @@ impl Counts {
             Ok(End::Paired(_)) => add(&mut self.payable, 1),
             Ok(End::None(Phase::One)) => add(&mut self.none_one, 1),
             Ok(End::None(Phase::Two)) => add(&mut self.none_two, 1),
-            Err(number) => {
-                if let Some(count) = self.refused.get_mut(usize::from(number.wrapping_sub(1))) {
-                    add(count, 1);
-                }
-            }
+            Err(number) => self.refused.note(number),
         }
     }
 }
@@ -75,10 +85,6 @@ impl fmt::Display for Counts {
             "a sum, none phase 1, none phase 2: {} {} {}",
             self.payable, self.none_one, self.none_two
         )?;
-        write!(f, "refused 1 to 17:")?;
-        for count in self.refused {
-            write!(f, " {count}")?;
-        }
-        Ok(())
+        write!(f, "refused 1 to 17:{}", self.refused)
     }
 }

@@ -2,12 +2,12 @@
 ghost use Rattle.std.specs.Prelude.{◌<◌, ◌≤◌};
 
 use arrayvec::ArrayVec;
-use samples::{next, put};
+use samples::next;
 
-pub type Tariff = ArrayVec<u8, 88>;
+// A byte for the count of steps, and seventeen steps, one more than a tariff may have.
+type Bytes = [u8; 86];
 
-// Seventeen steps, one more than a tariff may have, after a byte for their count; and bytes behind.
-type Bytes = [u8; 88];
+pub type Tariff = ArrayVec<u8, 86>;
 
 // The next step begins at pair 1, if it is the first, or 1 to `spread` % 12 + 1 pairs after the one before it.
 fn beginning(before: Option<u8>, x: u32, spread: u32) -> u8 {
@@ -29,7 +29,7 @@ fn step(beginning: u8, low: u32, high: u32) -> [u8; 5] {
 fn drawn_steps(seed: u32) -> Bytes {
     let mut x = next(seed);
     let mut before = None;
-    let mut bytes = [0; 88];
+    let mut bytes = [0; 86];
     for j in 0..17 {
         let a = next(x);
         let b = next(a);
@@ -40,31 +40,6 @@ fn drawn_steps(seed: u32) -> Bytes {
         bytes[5 * j + 1..5 * j + 6].copy_from_slice(&drawn);
     }
     bytes
-}
-
-// The first bytes.
-fn first(bytes: Bytes, size: usize) -> Tariff
-    requires { size ≤ 88 }
-{
-    let mut tariff = ArrayVec::new();
-    put(&mut tariff, &bytes[..size]);
-    tariff
-}
-
-// The first bytes, with another byte at one place.
-fn with_byte(mut bytes: Bytes, at: usize, byte: u8, size: usize) -> Tariff
-    requires { (at < 88) × (size ≤ 88) }
-{
-    bytes[at] = byte;
-    first(bytes, size)
-}
-
-// The highest price from pair 1 on.
-fn highest() -> Tariff {
-    let mut tariff = ArrayVec::new();
-    put(&mut tariff, &[1]);
-    put(&mut tariff, &step(1, 65535, 65535));
-    tariff
 }
 
 // Where the step before the last begins; pair 2, where there is one step only.
@@ -108,29 +83,49 @@ impl Form {
             _ => Form::Whole,
         }
     }
+
+    // How many bytes the tariff has, where it is drawn with so many steps.
+    fn size(self, count: usize) -> usize
+        requires { count ≤ 16 }
+    {
+        let size = 5 * count + 1;
+        match self {
+            Form::Empty => 0,
+            Form::NoStep => 1,
+            Form::SeventeenSteps => 86,
+            Form::Short => size - 1,
+            Form::Long => size + 1,
+            Form::Highest => 6,
+            _ => size,
+        }
+    }
+
+    // The bytes that are not as they were drawn, by another number of the generator.
+    fn put_in(self, bytes: &mut Bytes, count: usize, x: usize)
+        requires { (1 ≤ count) × (count ≤ 16) }
+    {
+        let byte = (x / 256 % 256) as u8;
+        match self {
+            Form::NoStep => bytes[0] = 0,
+            Form::SeventeenSteps => bytes[0] = 17,
+            Form::AnyBeginning => bytes[5 * (x % 16) + 1] = byte,
+            Form::AnyByte => bytes[x % 81] = byte,
+            Form::Repeated => bytes[5 * count - 4] = before_last(bytes, count),
+            Form::AnyCount => bytes[0] = (x % 16) as u8 + 1,
+            Form::Highest => bytes[..6].copy_from_slice(&[1, 1, 255, 255, 255, 255]),
+            _ => {}
+        }
+    }
 }
 
 pub fn drawn_tariff(seed: u32, form: Form) -> Tariff {
     let count = (seed % 65537 / 12 % 16) as usize + 1;
-    let size = 5 * count + 1;
     let mut bytes = drawn_steps(seed);
     bytes[0] = count as u8;
-    let again = before_last(&bytes, count);
-    let x = next(seed) as usize;
-    let byte = (x / 256 % 256) as u8;
-    match form {
-        Form::Whole => first(bytes, size),
-        Form::Empty => ArrayVec::new(),
-        Form::NoStep => with_byte(bytes, 0, 0, 1),
-        Form::SeventeenSteps => with_byte(bytes, 0, 17, 86),
-        Form::Short => first(bytes, size - 1),
-        Form::Long => with_byte(bytes, 87, 0, size + 1),
-        Form::AnyBeginning => with_byte(bytes, 5 * (x % 16) + 1, byte, size),
-        Form::AnyByte => with_byte(bytes, x % 81, byte, size),
-        Form::Repeated => with_byte(bytes, size - 5, again, size),
-        Form::AnyCount => with_byte(bytes, 0, (x % 16) as u8 + 1, size),
-        Form::Highest => highest(),
-    }
+    form.put_in(&mut bytes, count, next(seed) as usize);
+    let mut tariff = ArrayVec::from(bytes);
+    tariff.truncate(form.size(count));
+    tariff
 }
 
 // Has a tariff the form that it should have?

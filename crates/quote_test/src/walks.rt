@@ -22,7 +22,7 @@ struct Path {
 fn steps(start: &Work, seed: u32, most: u32) -> Path {
     let mut path = Path {
         at: seed,
-        list: longer(&Choices::new(), &Record::Mark(3).bytes()),
+        list: longer(&Choices::new(), &<[u8; 2]>::from(Record::Mark(3))),
         work: *start,
     };
     for _ in 0..most {
@@ -32,7 +32,7 @@ fn steps(start: &Work, seed: u32, most: u32) -> Path {
         }
         path.at = next(path.at);
         let joint = any_of(joints, path.at);
-        path.list = longer(&path.list, &Record::Step(joint).bytes());
+        path.list = longer(&path.list, &<[u8; 2]>::from(Record::Step(joint)));
         path.work.choose(joint);
     }
     path
@@ -70,20 +70,20 @@ pub fn drawn_walk(start: &Work, seed: u32) -> Walk {
         0 => ending(list, &[0], Err(14)),
         1 => ending(list, &[0, 200, 0], Err(14)),
         2 => ending(list, &[3, 0], Err(14)),
-        3 => ending(list, &Record::Return(5).bytes(), Err(15)),
-        4 => ending(list, &Record::Return(8).bytes(), Err(15)),
-        5 => ending(list, &Record::Mark(8).bytes(), Err(15)),
+        3 => ending(list, &<[u8; 2]>::from(Record::Return(5)), Err(15)),
+        4 => ending(list, &<[u8; 2]>::from(Record::Return(8)), Err(15)),
+        5 => ending(list, &<[u8; 2]>::from(Record::Mark(8)), Err(15)),
         6 => ending(
             list,
-            &Record::Step(200).bytes(),
+            &<[u8; 2]>::from(Record::Step(200)),
             end_after(start, path.work, 200),
         ),
         7 | 8 => ending(
             list,
-            &Record::Step(joint).bytes(),
+            &<[u8; 2]>::from(Record::Step(joint)),
             end_after(start, path.work, joint),
         ),
-        9 => ending(list, &Record::Return(3).bytes(), end_of(start)),
+        9 => ending(list, &<[u8; 2]>::from(Record::Return(3)), end_of(start)),
         _ => ending(list, &[], end_of(start)),
     }
 }

@@ -1,7 +1,7 @@
 // What a pairing of up to 8 joints is worth, straight from the definition, and every matching, for the test programs.
 #![tactic(auto)]
 
-ghost use Rattle.std.specs.Prelude.{◌<◌};
+ghost use Rattle.std.specs.Prelude.{◌<◌, IfSome};
 
 use arrayvec::ArrayVec;
 use samples::Bands;
@@ -17,15 +17,15 @@ pub const MATCHINGS: usize = 764;
 
 pub type Matchings = ArrayVec<Pairing, MATCHINGS>;
 
-// What a matching is worth: it is super-stable, or a pair blocks it, the lowest of them by this number.
-#[derive(Clone, Copy, PartialEq, Eq)]
-pub enum Verdict {
-    Stable,
-    Blocked(u32),
-}
-
 // b × (b − 1) ÷ 2 for each b.
 const FIRST: [u8; 8] = [0, 0, 1, 3, 6, 10, 15, 21];
+
+// The number of the pair of a and b.
+pub fn pair_number(a: usize, b: usize) -> u32
+    requires { (a < b) × (b < 8) }
+{
+    u32::from(FIRST[b]) + a as u32
+}
 
 // A pairing offered to a sheet.
 #[derive(Clone, Copy)]
@@ -54,38 +54,50 @@ impl Offered<'_> {
         }
     }
 
-    // The band of a's partner, 255 if it is unpaired.
-    fn held(&self, a: usize) -> u8
+    // The band of a's partner, if it has one.
+    fn held(&self, a: usize) -> Option<u8>
         requires { a < 8 }
     {
         let p = usize::from(self.pairing[a]);
-        self.bands[a].get(p).copied().unwrap_or(255)
+        self.bands[a].get(p).copied()
     }
 
-    // Is b on a's list, as a on b's, and not its partner, in a band no worse than its partner's?
+    // Is b on a's list, as a on b's, and not its partner, in a band no worse than its partner's if it has one?
     fn wants(&self, a: usize, b: usize) -> bool
         requires { (a < 8) × (b < 8) }
     {
+        let band = self.bands[a][b];
         self.are_listed(a, b)
             && usize::from(self.pairing[a]) != b
-            && self.bands[a][b] <= self.held(a)
+            && self.held(a).is_none_or(|held| band <= held)
+    }
+
+    // The lowest joint below b that blocks with b.
+    fn blocker(&self, b: usize) -> Option<usize>
+        requires { b < 8 }
+        ensures { IfSome result (λ a. a < b) }
+    {
+        (0..b).find(|a| self.wants(*a, b) && self.wants(b, *a))
+    }
+
+    // The number of the lowest pair that blocks and has b as its higher joint.
+    fn pair_below(&self, b: usize) -> Option<u32>
+        requires { b < 8 }
+    {
+        let a = self.blocker(b)?;
+        Some(pair_number(a, b))
     }
 }
 
-// None for what is no matching. Pairs come by the higher joint, then by the lower: so the first that blocks has the lowest number.
-pub fn worth(bands: &Bands, pairing: &Pairing) -> Option<Verdict> {
+// The number of the lowest pair that blocks a matching, None where it is super-stable; refusal 10 for what is no matching. Pairs come by the
+// higher joint, then by the lower: so the first that blocks has the lowest number. Refusals are the documents' numbers, and not the library's
+// names, so that a wrong number there is seen.
+pub fn worth(bands: &Bands, pairing: &Pairing) -> Result<Option<u32>, u8> {
     let offered = Offered { bands, pairing };
     if !(0..8).all(|a| offered.is_fit(a)) {
-        return None;
+        return Err(10);
     }
-    for b in 0..8 {
-        for a in 0..b {
-            if offered.wants(a, b) && offered.wants(b, a) {
-                return Some(Verdict::Blocked(u32::from(FIRST[b]) + a as u32));
-            }
-        }
-    }
-    Some(Verdict::Stable)
+    Ok((0..8).find_map(|b| offered.pair_below(b)))
 }
 
 // The matchings so far, and each that leaves a and b unpaired with their pair more.

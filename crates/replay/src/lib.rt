@@ -27,9 +27,11 @@ impl Record {
             _ => None,
         }
     }
+}
 
-    pub fn bytes(self) -> [u8; 2] {
-        match self {
+impl From<Record> for [u8; 2] {
+    fn from(record: Record) -> [u8; 2] {
+        match record {
             Record::Step(joint) => [0, joint],
             Record::Mark(mark) => [1, mark],
             Record::Return(mark) => [2, mark],
@@ -51,7 +53,7 @@ fn last_set(records: &[[u8; 2]], mark: u8) -> Option<usize>
 {
     records
         .iter()
-        .rposition(|record| *record == Record::Mark(mark).bytes())
+        .rposition(|record| *record == <[u8; 2]>::from(Record::Mark(mark)))
 }
 
 // Before which records do the steps stand that stand after a list of them and one more: those where its mark was last set, for a return.
@@ -80,7 +82,8 @@ fn standing(records: &[[u8; 2]]) -> ArrayVec<u8, 32> {
     back
 }
 
-// 14 for no kind; 15 for a mark above 7, or a return to one not set.
+// 14 for no kind; 15 for a mark above 7, or a return to one not set. Refusals are the documents' numbers, and not the library's names, so that
+// a wrong number there is seen.
 fn fault(before: &[[u8; 2]], last: [u8; 2]) -> Option<u8> {
     match Record::read(last) {
         None => Some(14),

@@ -10,7 +10,7 @@ ghost use Rattle.std.specs.Prelude.{◌<◌, IfSome};
 use arrayvec::ArrayVec;
 pub use joints::any_of;
 use joints::{Set, Table, fullest, has, lowest, rows};
-use samples::{Bands, Sheet, filled, put};
+use samples::{Bands, Joints, Sheet, filled, put};
 
 // Which call a working is of.
 #[derive(Clone, Copy, PartialEq, Eq)]
@@ -43,8 +43,8 @@ pub enum Stage {
 #[derive(Clone, Copy)]
 pub struct Work {
     pub call: Call,
-    // The count of joints and the sheet's bands.
-    pub n: usize,
+    // The sheet's joints and bands.
+    pub n: Joints,
     pub bands: Bands,
     // b is on a's list; p's proposal stands at q.
     listed: Table,
@@ -57,12 +57,14 @@ pub struct Work {
     pub cuts: u32,
 }
 
-// What a call answers that is not refused: none with its phase, the count of pairs, the count of entries.
+// What a call answers that is not refused: none with its phase, the count of pairs, the count of entries. A working that has not ended is none
+// that a call answers for.
 #[derive(Clone, Copy, PartialEq, Eq)]
 pub enum Said {
     None(Phase),
     Paired(u32),
     Lists(u32),
+    Unended,
 }
 
 // A working's counts, beside the number of a refused choice.
@@ -207,7 +209,7 @@ impl Work {
 
     // Settle writes n bytes: each joint's partner.
     fn settled(&self) -> [u8; 256] {
-        filled(&self.partners()[..self.n.min(8)])
+        filled(&self.partners()[..self.n.count])
     }
 
     // How many entries remain.
@@ -231,13 +233,13 @@ impl Work {
         filled(&out)
     }
 
-    // None and refusals write nothing. A working that has not ended is none that a call answers for.
+    // None and refusals write nothing.
     pub fn answered(&self) -> Answer {
         let (said, out, refused) = match self.stage {
             Stage::Ended(End::Paired) => (Ok(Said::Paired(self.count() / 2)), self.settled(), None),
             Stage::Ended(End::Lists) => (Ok(Said::Lists(self.count())), self.shortened(), None),
             Stage::Ended(End::None(phase)) => (Ok(Said::None(phase)), filled(&[]), None),
-            Stage::In(_) => (Err(0), filled(&[]), None),
+            Stage::In(_) => (Ok(Said::Unended), filled(&[]), None),
             Stage::Refused(number) => (Err(number), filled(&[]), Some(number)),
         };
         Answer {

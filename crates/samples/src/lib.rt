@@ -5,6 +5,13 @@ ghost use Rattle.std.specs.Prelude.{◌<◌, ◌≤◌};
 
 use arrayvec::ArrayVec;
 
+// How many joints there are: at most 8, which bands and pairings have room for.
+#[derive(Clone, Copy)]
+pub struct Joints {
+    pub count: usize,
+    ghost few: { count ≤ 8 },
+}
+
 // The band of b on a's list stands in row a at place b, 0 for unlisted.
 pub type Bands = [[u8; 8]; 8];
 
@@ -36,13 +43,12 @@ impl Style {
     }
 }
 
-// A sheet: its count of joints, its bands and its bytes, of which 8 joints have up to 1 + 8 × 16 + 2 + 64 × 3.
+// A sheet: its joints, its bands and its bytes, of which 8 joints have up to 1 + 8 × 16 + 2 + 64 × 3.
 #[derive(Drop)]
 pub struct Sheet {
-    pub n: usize,
+    pub n: Joints,
     pub bands: Bands,
     pub bytes: ArrayVec<u8, 384>,
-    ghost few: { n ≤ 8 },
 }
 
 // The bytes of a long sheet: room for 128 joints with an entry of each, and 129 without.
@@ -56,8 +62,8 @@ pub fn next(x: u32) -> u32
 }
 
 // The pair of a and b is not listed, or each has a band in the other's list, or one of them alone. Returns where the generator then is.
-fn list_pair(bands: &mut Bands, x: u32, style: Style, n: usize, a: usize, b: usize) -> u32
-    requires { (a < b) × (b < n) × (n ≤ 8) }
+fn list_pair(bands: &mut Bands, x: u32, style: Style, n: Joints, a: usize, b: usize) -> u32
+    requires { (a < b) × (b < n.count) }
 {
     let y = next(x);
     if y % 4 < style.skip {
@@ -66,18 +72,16 @@ fn list_pair(bands: &mut Bands, x: u32, style: Style, n: usize, a: usize, b: usi
     let z = next(y);
     let step = b - a;
     bands[a][b] = style.kept(style.band(y, step as u8), z, 0);
-    bands[b][a] = style.kept(style.band(z, (n - step) as u8), z, 1);
+    bands[b][a] = style.kept(style.band(z, (n.count - step) as u8), z, 1);
     z
 }
 
 // The bands of n joints.
-fn bands_of(n: usize, seed: u32, style: Style) -> Bands
-    requires { n ≤ 8 }
-{
+fn bands_of(n: Joints, seed: u32, style: Style) -> Bands {
     let mut x = seed;
     let mut bands = [[0u8; 8]; 8];
-    for a in 0..n {
-        for b in a + 1..n {
+    for a in 0..n.count {
+        for b in a + 1..n.count {
             x = list_pair(&mut bands, x, style, n, a, b);
         }
     }
@@ -115,12 +119,10 @@ pub fn put_labels<const ROOM: usize>(sheet: &mut ArrayVec<u8, ROOM>, count: usiz
 }
 
 // The sheet of n joints with these bands. Labels are a, b, c and so on.
-pub fn sheet_of(n: usize, bands: Bands) -> Sheet
-    requires { n ≤ 8 }
-{
+pub fn sheet_of(n: Joints, bands: Bands) -> Sheet {
     let mut bytes = ArrayVec::new();
-    put(&mut bytes, &[n as u8]);
-    for i in 0..n {
+    put(&mut bytes, &[n.count as u8]);
+    for i in 0..n.count {
         put_label(&mut bytes, [97 + i as u8, 0]);
     }
     let entries = bands.as_flattened().iter().filter(|k| **k != 0).count();
@@ -137,9 +139,7 @@ pub fn sheet_of(n: usize, bands: Bands) -> Sheet
 }
 
 // A sheet of n joints that the generator draws.
-pub fn drawn_sheet(n: usize, seed: u32, style: Style) -> Sheet
-    requires { n ≤ 8 }
-{
+pub fn drawn_sheet(n: Joints, seed: u32, style: Style) -> Sheet {
     sheet_of(n, bands_of(n, seed, style))
 }
 
@@ -149,11 +149,11 @@ const WIDTHS: [u32; 4] = [2, 5, 11, 59];
 const TURNS: [u8; 4] = [0, 2, 4, 8];
 
 // 0 to 8 joints, then 2 to 8.
-fn joints(round: u32) -> usize
-    ensures { result ≤ 8 }
-{
+fn joints_of(round: u32) -> Joints {
     let k = (round % 16) as usize;
-    if k < 9 { k } else { k - 7 }
+    Joints {
+        count: if k < 9 { k } else { k - 7 },
+    }
 }
 
 // The sheet of a round, which settles its number of joints and its style.
@@ -165,7 +165,7 @@ pub fn varied_sheet(round: u32, seed: u32) -> Sheet {
         width: WIDTHS[k],
         turn: TURNS[k],
     };
-    drawn_sheet(joints(round), seed, style)
+    drawn_sheet(joints_of(round), seed, style)
 }
 
 // The count and the labels of up to 129 joints.

@@ -7,6 +7,7 @@ use replay::Choices;
 use rules::{Answer, Call, Counts, Phase, Said};
 use samples::{FILL, Sheet};
 
+// The rules' phase for the library's: they stand apart from it. quote_test needs the way back alone, so one place would hold both functions.
 fn phase_of(phase: calls::Phase) -> Phase {
     match phase {
         calls::Phase::One => Phase::One,
@@ -15,18 +16,16 @@ fn phase_of(phase: calls::Phase) -> Phase {
 }
 
 fn settled(sheet: &[u8], choices: &[u8], out: &mut [u8]) -> Result<Said, u8> {
-    match settle(sheet, choices, out) {
-        Ok(End::None(phase)) => Ok(Said::None(phase_of(phase))),
-        Ok(End::Paired(count)) => Ok(Said::Paired(count)),
-        Err(refusal) => Err(u8::from(refusal)),
+    match settle(sheet, choices, out).map_err(u8::from)? {
+        End::None(phase) => Ok(Said::None(phase_of(phase))),
+        End::Paired(count) => Ok(Said::Paired(count)),
     }
 }
 
 fn shortened(sheet: &[u8], choices: &[u8], out: &mut [u8]) -> Result<Said, u8> {
-    match shorten(sheet, choices, out) {
-        Ok(None) => Ok(Said::None(Phase::One)),
-        Ok(Some(count)) => Ok(Said::Lists(count)),
-        Err(refusal) => Err(u8::from(refusal)),
+    match shorten(sheet, choices, out).map_err(u8::from)? {
+        None => Ok(Said::None(Phase::One)),
+        Some(count) => Ok(Said::Lists(count)),
     }
 }
 

@@ -2,34 +2,36 @@
 use replay::Record;
 use rules::{Call, End, Phase, Said, Stage, Work};
 use std::fmt;
-use tally::{Comparisons, add};
+use tally::{Comparisons, Refusals, add};
 
-// What a call answers: within the rules, or refused by each of these numbers.
-#[derive(Clone, Copy, Default)]
+// What a call answers: within the rules, or refused.
+#[derive(Clone, Copy)]
 struct Answers {
     within: u32,
-    refused: [u32; 6],
+    refused: Refusals<6>,
 }
 
-const REFUSALS: [u8; 6] = [9, 11, 12, 13, 14, 15];
+impl Default for Answers {
+    fn default() -> Answers {
+        Answers {
+            within: 0,
+            refused: Refusals::new([9, 11, 12, 13, 14, 15]),
+        }
+    }
+}
 
 impl Answers {
     fn note(&mut self, said: Result<Said, u8>) {
-        let place = REFUSALS.iter().position(|k| said == Err(*k));
-        match place.and_then(|i| self.refused.get_mut(i)) {
-            Some(count) => add(count, 1),
-            None => add(&mut self.within, 1),
+        match said {
+            Ok(_) => add(&mut self.within, 1),
+            Err(number) => self.refused.note(number),
         }
     }
 }
 
 impl fmt::Display for Answers {
     fn fmt<W: fmt::Write>(&self, f: &mut fmt::Formatter<W>) -> fmt::Result {
-        write!(f, "{}", self.within)?;
-        for count in self.refused {
-            write!(f, " {count}")?;
-        }
-        Ok(())
+        write!(f, "{}{}", self.within, self.refused)
     }
 }
 

@@ -7,7 +7,7 @@ mod counts;
 mod rows;
 mod trying;
 
-use brute::find_stable;
+use brute::{all_pair, count_stable};
 use counts::Counts;
 use reference::{Matchings, matchings, paired};
 use rows::try_rows;
@@ -25,23 +25,22 @@ fn try_sheet(counts: &mut Counts, rows: &Matchings, round: u32) {
     let sheet = varied_sheet(round, seed);
     let settle = Work::fresh(Call::Settle, &sheet);
     let end = settle.ended();
-    let found = find_stable(&sheet.bands, rows, paired(&end.partners()));
+    let stable = count_stable(&sheet.bands, rows);
+    let are_alike = all_pair(&sheet.bands, rows, paired(&end.partners()));
     add(&mut counts.one_sided, u32::from(is_one_sided(&sheet.bands)));
     counts.note_end(&end);
-    add(&mut counts.stable, found.stable);
-    add(&mut counts.several, u32::from(1 < found.stable));
+    add(&mut counts.stable, stable);
+    add(&mut counts.several, u32::from(1 < stable));
     let case = Case {
         round,
         settle,
         shorten: Work::fresh(Call::Shorten, &sheet),
         sheet,
-        stable: found.stable,
+        stable,
     };
-    counts.comparisons.compare(
-        "which joints the rules pair",
-        round,
-        found.alike == found.stable,
-    );
+    counts
+        .comparisons
+        .compare("which joints the rules pair", round, are_alike);
     case.try_calls(counts, seed);
 }
 

@@ -1,11 +1,12 @@
-// Rows n and o of document 01, whose sheets are numbered by their count of joints or their bands.
+// Rows n and o of document 01, whose sheets are numbered by their count of joints or their bands. Refusals are the documents' numbers, and not
+// the library's names, so that a wrong number there is seen.
 ghost use Rattle.std.specs.Prelude.{◌≤◌};
 
 use crate::answers::{answered, ask};
 use crate::counts::Counts;
 use replay::Choices;
 use rules::{Call, Said};
-use samples::{FILL, filled, no_entries, sheet_of};
+use samples::{FILL, Joints, filled, no_entries, sheet_of};
 
 // Settle on n joints with no entries: what it answers, and its buffer.
 fn row_n(counts: &mut Counts, n: usize, due: Result<Said, u8>, left: [u8; 256])
@@ -23,7 +24,12 @@ fn row_o(counts: &mut Counts, band: u8, due: Result<Said, u8>, left: [u8; 256]) 
     let mut bands = [[0; 8]; 8];
     bands[0][1] = band;
     bands[1][0] = band;
-    let said = ask(Call::Settle, &sheet_of(2, bands), &Choices::new(), 256);
+    let said = ask(
+        Call::Settle,
+        &sheet_of(Joints { count: 2 }, bands),
+        &Choices::new(),
+        256,
+    );
     let comparisons = &mut counts.comparisons;
     comparisons.compare("the answer of row o", u32::from(band), said.said == due);
     comparisons.compare("the buffer of row o", u32::from(band), said.out == left);

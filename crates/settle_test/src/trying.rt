@@ -1,12 +1,10 @@
 // Settle and shorten on one sheet, beside the rules.
-ghost use Rattle.std.specs.Prelude.{◌≤◌};
-
 use crate::answers::ask;
+use crate::brute::is_stable;
 use crate::counts::Counts;
-use reference::{Verdict, worth};
 use replay::{Choices, Record, after, longer, odd};
 use rules::{Answer, Call, End, Stage, Work, any_of};
-use samples::{Sheet, next};
+use samples::{Joints, Sheet, next};
 
 // A sheet with its number, a fresh working of each call, and how many super-stable matchings there are.
 #[derive(Drop)]
@@ -56,7 +54,7 @@ impl Case {
 
     // How long a call's buffer must be: n, or as long as the rankings of the sheet, which follow the count of joints and the labels.
     fn room(&self, call: Call) -> usize {
-        let n = self.sheet.n;
+        let n = self.sheet.n.count;
         match call {
             Call::Settle => n,
             Call::Shorten => self.sheet.bytes.len().saturating_sub(1 + 16 * n),
@@ -86,9 +84,7 @@ impl Case {
     fn compare_end(&self, counts: &mut Counts, end: &Work) {
         let agrees = match end.stage {
             Stage::Refused(_) => return,
-            Stage::Ended(End::Paired) => {
-                worth(&self.sheet.bands, &end.partners()) == Some(Verdict::Stable)
-            }
+            Stage::Ended(End::Paired) => is_stable(&self.sheet.bands, &end.partners()),
             _ => self.stable == 0,
         };
         self.compare(counts, "the verdict of the rules", agrees);
@@ -112,7 +108,7 @@ impl Case {
             x = next(y);
             self.try_walk(counts, &self.with(&walk, any_record(y, self.sheet.n)));
             let record = likely_record(walk.settle.allowed(), x);
-            let grown = self.with(&walk, record.bytes());
+            let grown = self.with(&walk, record.into());
             self.try_walk(counts, &grown);
             if !grown.settle.is_refused() {
                 counts.note_record(record, walk.settle.stage);
@@ -165,22 +161,18 @@ impl Case {
 }
 
 // A joint, or n, or 255.
-fn any_byte(x: u32, n: usize) -> u8
-    requires { n ≤ 8 }
-{
-    let k = (x % 65537) as usize % (n + 2);
-    if n < k { 255 } else { k as u8 }
+fn any_byte(x: u32, n: Joints) -> u8 {
+    let k = (x % 65537) as usize % (n.count + 2);
+    if n.count < k { 255 } else { k as u8 }
 }
 
 // Any record: of eight, three are steps of a joint or of what is none, one sets a mark of 0 to 9, two return to one and two are no kind.
-fn any_record(x: u32, n: usize) -> [u8; 2]
-    requires { n ≤ 8 }
-{
+fn any_record(x: u32, n: Joints) -> [u8; 2] {
     let mark = (x % 65537 / 128 % 10) as u8;
     match x % 65537 / 16 % 8 {
-        0 | 1 | 2 => Record::Step(any_byte(x, n)).bytes(),
-        3 => Record::Mark(mark).bytes(),
-        4 | 5 => Record::Return(mark).bytes(),
+        0 | 1 | 2 => Record::Step(any_byte(x, n)).into(),
+        3 => Record::Mark(mark).into(),
+        4 | 5 => Record::Return(mark).into(),
         6 => [3, mark],
         _ => [255, mark],
     }

@@ -32,14 +32,13 @@ fn put_hex(sheet: &mut Sheet, digits: &[u8]) {
 
 // The first entries of n joints.
 fn put_entries(sheet: &mut Sheet, n: u8, count: usize) {
-    let mut left = count;
-    for a in 0..n {
-        for b in 0..n {
-            if a != b && 0 < left {
-                put(sheet, &[a, b, 1 + b / 2]);
-                left -= 1;
-            }
-        }
+    let entries = (0..n).flat_map(|a| {
+        (0..n)
+            .filter(move |b| *b != a)
+            .map(move |b| [a, b, 1 + b / 2])
+    });
+    for entry in entries.take(count) {
+        put(sheet, &entry);
     }
 }
 

@@ -10,17 +10,16 @@ type Bands = [[u8; 128]; 128];
 // What a square holds before a sheet is read: no band.
 const MARK: u8 = 255;
 
-// Reads a sheet: its parts, or the number of a refusal.
+// Reads a sheet: its parts, or a refusal. Refusals are the documents' numbers, and not the library's names, so that a wrong number there is
+// seen.
 fn read(sheet: &[u8], bands: &mut Bands) -> Result<Parts, u8> {
     sheet::lists(sheet, bands).map_err(u8::from)
 }
 
 // Do all pairs follow where nobody of n joints is paired? Or the number of a refusal.
 fn follow_alone(sheet: &[u8], n: usize) -> Result<bool, u8> {
-    match follow(sheet, &[255u8; 128][..n.min(128)]) {
-        Ok(strays) => Ok(strays.is_none()),
-        Err(refusal) => Err(u8::from(refusal)),
-    }
+    let strays = follow(sheet, &[255u8; 128][..n.min(128)]).map_err(u8::from)?;
+    Ok(strays.is_none())
 }
 
 // Refused by the number that is expected, by follow too, and the square is as it was.

@@ -1,7 +1,7 @@
 // What the program counts, and prints at its end.
 use crate::Answer;
 use std::fmt;
-use tally::{Comparisons, add};
+use tally::{Comparisons, Refusals, add};
 
 // The two parts of the test.
 #[derive(Clone, Copy)]
@@ -20,17 +20,26 @@ struct Sums {
     lowest: u32,
 }
 
-#[derive(Default, Drop)]
+#[derive(Drop)]
 pub struct Counts {
     pub comparisons: Comparisons,
     every: Sums,
     drawn: Sums,
     pub depths: u32,
-    // By each of these numbers, and by any other.
-    refused: [u32; 5],
+    refused: Refusals<4>,
 }
 
-const REFUSALS: [u8; 4] = [1, 8, 10, 18];
+impl Default for Counts {
+    fn default() -> Counts {
+        Counts {
+            comparisons: Comparisons::default(),
+            every: Sums::default(),
+            drawn: Sums::default(),
+            depths: 0,
+            refused: Refusals::new([1, 8, 10, 18]),
+        }
+    }
+}
 
 impl Counts {
     pub fn note(&mut self, part: Part, said: Answer) {
@@ -46,12 +55,7 @@ impl Counts {
                 add(&mut sums.pairs, strays.pairs);
                 add(&mut sums.lowest, strays.lowest);
             }
-            Err(number) => {
-                let place = REFUSALS.iter().position(|k| *k == number).unwrap_or(4);
-                if let Some(count) = self.refused.get_mut(place) {
-                    add(count, 1);
-                }
-            }
+            Err(number) => self.refused.note(number),
         }
     }
 }
@@ -85,10 +89,10 @@ impl fmt::Display for Counts {
             "pairs that do not follow, their lowest numbers summed: {} {}",
             drawn.pairs, drawn.lowest
         )?;
-        write!(f, "refused 1, 8, 10, 18, by any other number:")?;
-        for count in self.refused {
-            write!(f, " {count}")?;
-        }
-        Ok(())
+        write!(
+            f,
+            "refused 1, 8, 10, 18, by any other number:{} {}",
+            self.refused, self.refused.others
+        )
     }
 }

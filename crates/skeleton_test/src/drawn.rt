@@ -6,7 +6,7 @@ use crate::every::nth_parents;
 use crate::plain::Parents;
 use crate::{Case, Third, try_call};
 use reference::{MATCHINGS, Matchings, NONE, Pairing, worth};
-use samples::{Bands, next, varied_sheet};
+use samples::{Bands, Joints, next, varied_sheet};
 
 const ROUNDS: u32 = 6144;
 
@@ -45,51 +45,47 @@ impl Damage {
     }
 
     // The count of the section.
-    fn count(self, n: usize, x: usize) -> usize
-        requires { n ≤ 8 }
+    fn count(self, n: Joints, x: usize) -> usize
         ensures { result < 256 }
     {
         match self {
-            Damage::OtherCount => (n + 1 + x % 9) % 10,
-            Damage::CountsMore => n + 1 + x % 247,
-            Damage::CountsFewer => x % (n + 1),
-            _ => n,
+            Damage::OtherCount => (n.count + 1 + x % 9) % 10,
+            Damage::CountsMore => n.count + 1 + x % 247,
+            Damage::CountsFewer => x % (n.count + 1),
+            _ => n.count,
         }
     }
 
     // How many of its bytes are lent.
-    fn size(self, n: usize, count: usize) -> usize
-        requires { n ≤ 8 }
-    {
+    fn size(self, n: Joints, count: usize) -> usize {
         match self {
             Damage::LeftOut => 0,
             Damage::OtherCount => count % 10 + 1,
-            Damage::Short => n,
-            Damage::Long | Damage::CountsFewer => n + 2,
-            _ => n + 1,
+            Damage::Short => n.count,
+            Damage::Long | Damage::CountsFewer => n.count + 2,
+            _ => n.count + 1,
         }
     }
 
-    // The number that it is refused with. A section of no joints has no bad parent, and is left out if it is a byte short.
-    fn refused(self, n: usize) -> Option<u8> {
+    // What it is refused with. A section of no joints has no bad parent, and is left out if it is a byte short. Refusals are the documents'
+    // numbers, and not the library's names, so that a wrong number there is seen.
+    fn refused(self, n: Joints) -> Option<u8> {
         match self {
             Damage::LeftOut | Damage::OtherCount => Some(18),
-            Damage::Short => Some(if n == 0 { 18 } else { 1 }),
+            Damage::Short => Some(if n.count == 0 { 18 } else { 1 }),
             Damage::CountsMore => Some(1),
             Damage::Long | Damage::CountsFewer => Some(8),
-            Damage::OwnParent | Damage::HigherParent if n != 0 => Some(18),
+            Damage::OwnParent | Damage::HigherParent if n.count != 0 => Some(18),
             _ => None,
         }
     }
 
     // Its parents.
-    fn parents(self, mut parents: Parents, n: usize, x: usize) -> Parents
-        requires { n ≤ 8 }
-    {
-        if n == 0 {
+    fn parents(self, mut parents: Parents, n: Joints, x: usize) -> Parents {
+        if n.count == 0 {
             return parents;
         }
-        let joint = x % n;
+        let joint = x % n.count;
         match self {
             Damage::OwnParent => parents[joint] = joint as u8,
             Damage::HigherParent => parents[joint] = (joint + 1 + x / 8 % 247) as u8,
@@ -99,9 +95,7 @@ impl Damage {
     }
 }
 
-fn drawn_third(n: usize, damage: Damage, x: u32) -> Third
-    requires { n ≤ 8 }
-{
+fn drawn_third(n: Joints, damage: Damage, x: u32) -> Third {
     let count = damage.count(n, x as usize);
     Third {
         parents: damage.parents(nth_parents(x, n), n, next(x) as usize),
@@ -114,45 +108,67 @@ fn drawn_third(n: usize, damage: Damage, x: u32) -> Third
 fn drawn_matching(rows: &Matchings, bands: &Bands, seed: usize) -> Pairing {
     (0..MATCHINGS)
         .filter_map(|k| rows.get((seed % MATCHINGS + STRIDE * k) % MATCHINGS))
-        .find(|m| worth(bands, m).is_some())
+        .find(|m| worth(bands, m).is_ok())
         .copied()
         .unwrap_or([NONE; 8])
 }
 
-// How many bytes of a pairing are lent: of sixteen one has a byte more (fewer where there are 8 joints) and one a byte less.
-fn lent(n: usize, draw: usize) -> usize
-    requires { n ≤ 8 }
-    ensures { result ≤ 8 }
-{
-    match draw {
-        0 if n == 8 => 7,
-        1 if n != 0 => n - 1,
-        0 | 1 => n + 1,
-        _ => n,
-    }
+// What is wrong with a pairing: it has a byte more (fewer where there are 8 joints), a byte less (more where there are none), a joint is made
+// unpaired, or has any number up to 8 as its partner, or any two joints are paired and no others.
+#[derive(Clone, Copy)]
+enum Flaw {
+    Long,
+    Short,
+    Unpaired,
+    AnyPartner,
+    OnePair,
+    Nothing,
 }
 
-// Of the others a joint is made unpaired in one, in one a joint has any number up to 8 as its partner, and in two any two joints are paired
-// and no others. A draw and no enum, since nothing else reads it.
-fn changed(mut m: Pairing, n: usize, draw: usize, x: usize) -> Pairing
-    requires { n ≤ 8 }
-{
-    if n == 0 {
-        return m;
-    }
-    let a = x % n;
-    let b = x / 8 % n;
-    match draw {
-        2 => m[a] = NONE,
-        3 => m[a] = (x / 8 % 9) as u8,
-        4 | 5 => {
-            m = [NONE; 8];
-            m[a] = b as u8;
-            m[b] = a as u8;
+impl Flaw {
+    // Of sixteen pairings two have one pair alone, and one has each of the others.
+    fn drawn(x: u32) -> Flaw {
+        match x % 16 {
+            0 => Flaw::Long,
+            1 => Flaw::Short,
+            2 => Flaw::Unpaired,
+            3 => Flaw::AnyPartner,
+            4 | 5 => Flaw::OnePair,
+            _ => Flaw::Nothing,
         }
-        _ => {}
     }
-    m
+
+    // How many of its bytes are lent.
+    fn size(self, n: Joints) -> usize
+        ensures { result ≤ 8 }
+    {
+        match self {
+            Flaw::Long if n.count == 8 => 7,
+            Flaw::Short if n.count != 0 => n.count - 1,
+            Flaw::Long | Flaw::Short => n.count + 1,
+            _ => n.count,
+        }
+    }
+
+    // Its partners.
+    fn partners(self, mut m: Pairing, n: Joints, x: usize) -> Pairing {
+        if n.count == 0 {
+            return m;
+        }
+        let a = x % n.count;
+        let b = x / 8 % n.count;
+        match self {
+            Flaw::Unpaired => m[a] = NONE,
+            Flaw::AnyPartner => m[a] = (x / 8 % 9) as u8,
+            Flaw::OnePair => {
+                m = [NONE; 8];
+                m[a] = b as u8;
+                m[b] = a as u8;
+            }
+            _ => {}
+        }
+        m
+    }
 }
 
 // One call on a random sheet. The section's refusal comes first, then 10 of the pairing.
@@ -166,10 +182,10 @@ fn try_sheet(counts: &mut Counts, rows: &Matchings, round: u32)
     let z = next(y) as usize;
     let damage = Damage::drawn(x);
     let third = drawn_third(n, damage, y);
-    let draw = y as usize % 16;
-    let m = changed(drawn_matching(rows, &sheet.bands, z), n, draw, z);
-    let pairing = &m[..lent(n, draw)];
-    let is_bad = pairing.len() != n || worth(&sheet.bands, &m).is_none();
+    let flaw = Flaw::drawn(y);
+    let m = flaw.partners(drawn_matching(rows, &sheet.bands, z), n, z);
+    let pairing = &m[..flaw.size(n)];
+    let is_bad = pairing.len() != n.count || worth(&sheet.bands, &m).is_err();
     let refused = damage.refused(n).or(if is_bad { Some(10) } else { None });
     let case = Case::new(Part::Drawn, round, &sheet, third);
     try_call(counts, &case, pairing, refused);

@@ -1,25 +1,23 @@
 // Every skeleton of up to 6 joints that all list each other, with every matching.
-ghost use Rattle.std.specs.Prelude.{◌<◌, ◌≤◌};
 ghost use Rattle.parents.specs.Claims.{Lower};
 
 use crate::counts::{Counts, Part};
 use crate::plain::{Parents, climbed};
 use crate::{Case, Third, try_call};
 use reference::{Matchings, NONE};
-use samples::{Sheet, Style, drawn_sheet};
+use samples::{Joints, Sheet, Style, drawn_sheet};
 use tally::add;
 
 // How many skeletons of n joints there are: n!.
 const SKELETONS: [u16; 7] = [1, 1, 2, 6, 24, 120, 720];
 
 // Joint i has one of the i lower joints as its parent, or none: the digit of v to the base i + 1 says which.
-pub fn nth_parents(v: u32, n: usize) -> Parents
-    requires { n ≤ 8 }
+pub fn nth_parents(v: u32, n: Joints) -> Parents
     ensures { Lower result }
 {
     let mut parents = [NONE; 8];
     let mut rest = v as usize;
-    for i in 0..n {
+    for i in 0..n.count {
         let digit = rest % (i + 1);
         rest /= i + 1;
         if digit < i {
@@ -30,21 +28,20 @@ pub fn nth_parents(v: u32, n: usize) -> Parents
 }
 
 // Each matching that pairs none but the first n joints.
-fn try_matchings(counts: &mut Counts, rows: &Matchings, case: &Case, n: usize)
-    requires { n < 7 }
-{
+fn try_matchings(counts: &mut Counts, rows: &Matchings, case: &Case, n: Joints) {
     for m in rows {
-        if m[n..].iter().all(|p| *p == NONE) {
-            try_call(counts, case, &m[..n], None);
+        let (first, others) = m.split_at(n.count);
+        if others.iter().all(|p| *p == NONE) {
+            try_call(counts, case, first, None);
         }
     }
 }
 
 // The depth of each joint.
-fn try_depths(counts: &mut Counts, number: u32, parents: &Parents, n: usize)
-    requires { (n ≤ 8) × Lower parents.now }
+fn try_depths(counts: &mut Counts, number: u32, parents: &Parents, n: Joints)
+    requires { Lower parents.now }
 {
-    for joint in 0..n {
+    for joint in 0..n.count {
         let depth = parents::depth(parents, joint);
         add(&mut counts.depths, depth as u32);
         let agrees = depth == climbed(parents, joint);
@@ -55,9 +52,7 @@ fn try_depths(counts: &mut Counts, number: u32, parents: &Parents, n: usize)
 }
 
 // A sheet of n joints that all list each other.
-fn full_sheet(n: usize) -> Sheet
-    requires { n ≤ 8 }
-{
+fn full_sheet(n: Joints) -> Sheet {
     let style = Style {
         skip: 0,
         lone: 0,
@@ -68,15 +63,13 @@ fn full_sheet(n: usize) -> Sheet
 }
 
 // Skeleton v of n joints.
-fn try_skeleton(counts: &mut Counts, rows: &Matchings, n: usize, v: u16)
-    requires { n < 7 }
-{
+fn try_skeleton(counts: &mut Counts, rows: &Matchings, n: Joints, v: u16) {
     let parents = nth_parents(u32::from(v), n);
-    let number = 1000 * n as u32 + u32::from(v);
+    let number = 1000 * n.count as u32 + u32::from(v);
     let third = Third {
         parents,
-        count: n as u8,
-        size: n + 1,
+        count: n.count as u8,
+        size: n.count + 1,
     };
     let case = Case::new(Part::Every, number, &full_sheet(n), third);
     try_depths(counts, number, &parents, n);
@@ -84,9 +77,9 @@ fn try_skeleton(counts: &mut Counts, rows: &Matchings, n: usize, v: u16)
 }
 
 pub fn try_every(counts: &mut Counts, rows: &Matchings) {
-    for n in 0..7 {
-        for v in 0..SKELETONS[n] {
-            try_skeleton(counts, rows, n, v);
+    for count in 0..7 {
+        for v in 0..SKELETONS[count] {
+            try_skeleton(counts, rows, Joints { count }, v);
         }
     }
 }

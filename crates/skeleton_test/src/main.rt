@@ -18,6 +18,7 @@ use skeleton::{Strays, follow};
 use std::io;
 
 // What follow answers: all pairs follow, or those that do not; or the number of a refusal.
+// Refusals are the documents' numbers, and not the library's names, so that a wrong number there is seen.
 pub type Answer = Result<Option<Strays>, u8>;
 
 // A third section: its parents, its count, and how many of its bytes are lent.

@@ -2,13 +2,11 @@
 // before which, pairs come by their lower joint, and the least of their numbers is taken.
 ghost use Rattle.std.specs.Prelude.{◌<◌};
 
+use reference::pair_number;
 use skeleton::Strays;
 
 // A byte for the parent of each joint, 255 for a root.
 pub type Parents = [u8; 8];
-
-// b × (b − 1) ÷ 2 for each b.
-const FIRST: [u8; 8] = [0, 0, 1, 3, 6, 10, 15, 21];
 
 // Both joints are roots; or neither is, and their parents are paired together or are one joint.
 fn follows(parents: &Parents, m: &[u8], a: usize, b: usize) -> bool
@@ -43,7 +41,7 @@ pub fn judged(parents: &Parents, m: &[u8]) -> Option<Strays> {
     for (a, p) in m.iter().enumerate() {
         let b = usize::from(*p);
         if a < b && b < 8 && !follows(parents, m, a, b) {
-            found = Some(with_stray(found, u32::from(FIRST[b]) + a as u32));
+            found = Some(with_stray(found, pair_number(a, b)));
         }
     }
     found

@@ -1,4 +1,4 @@
-// The comparisons of a test program, and its sums.
+// The comparisons of a test program, the refusals that it met, and its sums.
 #![tactic(auto)]
 
 use arrayvec::ArrayVec;
@@ -45,6 +45,42 @@ impl fmt::Display for Comparisons {
             "comparisons, differences: {} {}",
             self.agree, self.differ
         )
+    }
+}
+
+// How many calls were refused by each of these numbers, and by any other.
+#[derive(Clone, Copy)]
+pub struct Refusals<const K: usize> {
+    numbers: [u8; K],
+    counts: [u32; K],
+    pub others: u32,
+}
+
+impl<const K: usize> Refusals<K> {
+    pub fn new(numbers: [u8; K]) -> Refusals<K> {
+        Refusals {
+            numbers,
+            counts: [0; K],
+            others: 0,
+        }
+    }
+
+    pub fn note(&mut self, number: u8) {
+        let place = self.numbers.iter().position(|k| *k == number);
+        match place.and_then(|i| self.counts.get_mut(i)) {
+            Some(count) => add(count, 1),
+            None => add(&mut self.others, 1),
+        }
+    }
+}
+
+// The counts of the numbers, a space before each. The others are left to the program, since not each prints them.
+impl<const K: usize> fmt::Display for Refusals<K> {
+    fn fmt<W: fmt::Write>(&self, f: &mut fmt::Formatter<W>) -> fmt::Result {
+        for count in &self.counts {
+            write!(f, " {count}")?;
+        }
+        Ok(())
     }
 }
 
