@@ -12,11 +12,10 @@ ghost use Rattle.hierarchy.specs.Gathered.{gathered, WasRead, Answered, Shorter}
 use blocks::block;
 use names::NamedJoints;
 use refusals::Refusal;
+use sections::NO_JOINT;
 use words::{keyword, next_word};
 
-// The parent of a root, and how many levels may nest inside its block: JOINT nests to depth 32, and a root has depth 1.
-const ROOT: u8 = 255;
-
+// How many levels may nest inside a root's block: JOINT nests to depth 32, and a root has depth 1.
 const DEEPER: usize = 31;
 
 // The joints that a hierarchy names, and the text that follows it.
@@ -43,7 +42,7 @@ fn root<'a>(text: &'a [u8], joints: &mut NamedJoints<'a>) -> Result<&'a [u8], Re
     ensures shorter { Shorter text.now result }
 {
     let name = keyword(text, b"ROOT").ok_or(Refusal::BadHierarchy)?;
-    block(name, ROOT, DEEPER, joints)
+    block(name, NO_JOINT, DEEPER, joints)
 }
 
 // Reads ROOT blocks, one or more, up to MOTION or the end, which stands behind a block: so the loop has its end inside.

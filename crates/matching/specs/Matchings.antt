@@ -1,12 +1,12 @@
 -- Matchings, over a sheet's n joints, its square of bands t and offered partner bytes m; the counts and the numbers of pairs.
 use Rattle.std.specs.Prelude.{Bool, not, Option, ◌&&◌, ◌||◌, List, ℕ, ◌+◌, ◌-◌, ◌*◌, ◌/◌, ltb, eqb, length, get_or}
 use Rattle.base.specs.Below.{all_below, count_below}
-use Rattle.sections.specs.Joints.{joint_in}
+use Rattle.sections.specs.Joints.{no_joint, joint_in}
 use Rattle.sheet.specs.Square.{at}
 
 -- the byte of an unpaired joint
 abbrev pub alone : ℕ
-alone = 255
+alone = no_joint
 
 abbrev pub partner : List ℕ → ℕ → ℕ
 partner m a = get_or m a alone

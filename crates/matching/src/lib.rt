@@ -5,12 +5,9 @@ ghost use Rattle.std.specs.Prelude.{◌≡◌, ◌<◌, length};
 ghost use Rattle.matching.specs.Matchings.{paired_joints, pair_count, is_paired, is_placed, is_matching, pair_number};
 
 use pair_rows::row_start;
-use sections::Joints;
+use sections::{Joints, NO_JOINT};
 // a joint's partner, if it is paired
 pub use sections::joint_in as partner;
-
-// The byte of an unpaired joint.
-const ALONE: u8 = 255;
 
 // Partner bytes that are offered over a sheet's joints and its square of bands.
 #[derive(Clone, Copy)]
@@ -53,7 +50,7 @@ impl Offered<'_> {
 pub fn count_paired(pairing: &[u8]) -> usize
     ensures { result ≡ paired_joints pairing.now }
 {
-    pairing.iter().filter(|p| **p != ALONE).count()
+    pairing.iter().filter(|p| **p != NO_JOINT).count()
 }
 
 pub fn count_pairs(pairing: &[u8]) -> usize

@@ -12,6 +12,7 @@ use refusals::Refusal;
 #[derive(Clone, Copy, Default)]
 pub struct NamedJoint<'a> {
     pub name: &'a [u8],
+    // No Option: it is only ever written, as this byte, and the definitions of a hierarchy have bytes; an Option would be turned back at once.
     pub parent: u8,
 }
 

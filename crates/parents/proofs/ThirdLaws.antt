@@ -50,10 +50,6 @@ extent_exact (x ∷ l) some h =
     omega arith
 
 -- ITS PARENTS
-pub none_in : (third : List ℕ) → length third ≡ 0 → length (parents_in third) ≡ 0
-none_in [] h = refl
-none_in (x ∷ l) h = absurd (omega arith)
-
 pub parents_none : (n : ℕ) (third : List ℕ) → length third ≡ 0 → parents_fault n third ≡ 0
 unfolding parents_fault
 parents_none n [] h = refl

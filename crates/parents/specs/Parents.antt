@@ -3,10 +3,11 @@
 use Rattle.std.specs.Prelude.{Bool, not, ◌&&◌, ◌||◌, List, [], ◌∷◌, ℕ, eqb, ltb, leb, length, get_or, drop}
 use Rattle.base.specs.Below.{any_below}
 use Rattle.base.specs.Faults.{when, first_fault}
+use Rattle.sections.specs.Joints.{no_joint}
 
 -- the byte of a root
 abbrev pub root : ℕ
-root = 255
+root = no_joint
 
 -- a joint's parent by the parent bytes; a joint without a byte has none
 abbrev pub parent_of : List ℕ → ℕ → ℕ

@@ -2,17 +2,17 @@
 ghost use Rattle.std.specs.Prelude.{◌≡◌, ◌<◌, length};
 ghost use Rattle.base.specs.Below.{any_below};
 ghost use Rattle.refusals.specs.Numbers.{answered};
-ghost use Rattle.parents.specs.Parents.{bad_parent, extent_fault, counted_fault, parents_fault, parents_in};
+ghost use Rattle.parents.specs.Parents.{bad_parent, extent_fault, counted_fault, parents_fault};
 
 use crate::parent;
 use refusals::Refusal;
 
-// How far the section goes, which may be left out: as far as the sheet, or it is cut short, or bytes follow it.
-pub fn parents_extent(third: &[u8]) -> Result<usize, Refusal>
-    ensures { result ≡ answered (extent_fault third.now) (length third.now) }
+// Does the section, which may be left out, go as far as the sheet? Else it is cut short, or bytes follow it.
+pub fn parents_extent(third: &[u8]) -> Result<(), Refusal>
+    ensures { result ≡ answered (extent_fault third.now) tt }
 {
     let Some((count, part)) = third.split_first() else {
-        return Ok(0);
+        return Ok(());
     };
     let count = usize::from(*count);
     if part.len() < count {
@@ -21,7 +21,7 @@ pub fn parents_extent(third: &[u8]) -> Result<usize, Refusal>
     if count < part.len() {
         return Err(Refusal::BytesAfterSheet);
     }
-    Ok(third.len())
+    Ok(())
 }
 
 // Is a parent neither 255 nor lower?
@@ -39,22 +39,22 @@ fn some_bad(part: &[u8]) -> bool
 }
 
 // Reads a parent for each of n joints.
-fn read_parents(part: &[u8], n: usize) -> Result<usize, Refusal>
-    ensures { result ≡ answered (counted_fault n (length part.now) part.now) (length part.now) }
+fn read_parents(part: &[u8], n: usize) -> Result<(), Refusal>
+    ensures { result ≡ answered (counted_fault n (length part.now) part.now) tt }
 {
     if part.len() != n || some_bad(part) {
         return Err(Refusal::BadParents);
     }
-    Ok(part.len())
+    Ok(())
 }
 
 // Reads the section, if it is there: its parents are the part after its count, as many as it counts.
-pub fn read_third(third: &[u8], n: usize) -> Result<usize, Refusal>
+pub fn read_third(third: &[u8], n: usize) -> Result<(), Refusal>
     requires { extent_fault third.now ≡ 0 }
-    ensures { result ≡ answered (parents_fault n third.now) (length (parents_in third.now)) }
+    ensures { result ≡ answered (parents_fault n third.now) tt }
 {
     let Some((_, part)) = third.split_first() else {
-        return Ok(0);
+        return Ok(());
     };
     read_parents(part, n)
 }

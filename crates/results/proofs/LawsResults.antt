@@ -1,14 +1,13 @@
 -- An entry's bytes, and those of the shortened lists.
-use mathlib.Core.Path.{◌≡◌, refl, sym, ap, ◌∙◌}
+use mathlib.Core.Path.{◌≡◌, refl, ap, ◌∙◌}
 use mathlib.Core.List.{List, [], ◌∷◌, ◌++◌}
-use Prim.Native.Nat.{ℕ, zero, suc, ◌+◌, ◌/◌, ◌%◌, ◌≤◌, ◌<◌}
+use Prim.Native.Nat.{ℕ, zero, suc, ◌+◌, ◌/◌, ◌%◌, ◌≤◌}
 use native.Mathlib.Nat.{mul-le-mul}
 use native.Mathlib.Omega.{arith}
 use native.Mathlib.Numerals.{add-one}
 use lib.ListN.{length, get_or, take}
 use borrow.Author.Tests.{eq-eqb, ne_eqb, lt-ltb, le-ltb, ltb-true}
-use Rattle.std.specs.Prelude.{Option, Some, None}
-use Rattle.std.specs.Option.{unwrap_or}
+use Rattle.std.specs.Prelude.{Option, MatchOption}
 use Rattle.std.specs.List.{sum_by}
 use Rattle.std.proofs.lemmas.List.Sums.{sum_by_more}
 use Rattle.base.specs.Below.{lowest, first_below, sum_below}
@@ -29,31 +28,20 @@ module _ (a : ℕ) (l : List ℕ) (b : ℕ) where
   unfolding entry
   entry_some h = rw (listed (get_or l b 0) h)
 
--- the lowest joint on a list, as a search finds it
-module _ (n : ℕ) (l : List ℕ) {r : Option ℕ} (found : r ≡ first_below n (is_listed l)) where
-  first_some : (lowest n (is_listed l) < n) → r ≡ Some (lowest n (is_listed l))
-  first_some h = rw (lt-ltb (lowest n (is_listed l)) n h) at found
-
-  first_none : (n ≤ lowest n (is_listed l)) → r ≡ None
-  first_none h = rw (le-ltb (lowest n (is_listed l)) n h) at found
-
-  pub partner_none : r ≡ None → 255 ≡ partner_on n l
+-- what a search for the lowest joint on a list ends in: the byte of no joint, or what is told of the joint that it found
+module _ (n : ℕ) (l : List ℕ) {r : Option ℕ} (found : r ≡ first_below n (is_listed l)) {x : ℕ} (P : ℕ → Type 0)
+    (told : MatchOption r (x ≡ 255) P) (same : (b : ℕ) → P b → x ≡ b) where
+  pub partner_told : x ≡ partner_on n l
   unfolding partner_on
-  partner_none e =
+  partner_told =
       case (lt_ge (lowest n (is_listed l)) n)
-      (λ h. let both = ap (λ (o : Option ℕ). unwrap_or o n) (sym e ∙ first_some h) in absurd (omega arith))
-      (λ h. case (lt_ge 0 (list_length n l))
-      (λ some. let j = some_listed n l some in absurd (omega (arith, some_passes n (is_listed l) j.0 j.1 (lt-ltb 0 (get_or l j.0 0) j.2))))
-      (λ none. rw (eq-eqb (list_length n l) 0 (omega arith)) refl))
-
-  pub partner_some : {b : ℕ} → r ≡ Some b → (b < n) × (b ≡ partner_on n l)
-  unfolding partner_on
-  partner_some {b} e =
-      case (lt_ge (lowest n (is_listed l)) n)
-      (λ h. let both : b ≡ lowest n (is_listed l) = ap (λ (o : Option ℕ). unwrap_or o n) (sym e ∙ first_some h) in
+      (λ h. let is : P (lowest n (is_listed l)) = rw (found, lt-ltb (lowest n (is_listed l)) n h) at told in
       let listed = listed_some n l (lowest n (is_listed l)) h (ltb-true 0 (get_or l (lowest n (is_listed l)) 0) (lowest_passes n (is_listed l) h)) in
-      (omega arith, rw (ne_eqb (list_length n l) 0 (λ z. omega arith)) both))
-      (λ h. let both = ap (λ (o : Option ℕ). unwrap_or o (suc b)) (sym e ∙ first_none h) in absurd (omega arith))
+      rw (ne_eqb (list_length n l) 0 (λ z. omega arith)) (same _ is))
+      (λ h. let is : x ≡ 255 = rw (found, le-ltb (lowest n (is_listed l)) n h) at told in
+      case (lt_ge 0 (list_length n l))
+      (λ some. let j = some_listed n l some in absurd (omega (arith, some_passes n (is_listed l) j.0 j.1 (lt-ltb 0 (get_or l j.0 0) j.2))))
+      (λ none. rw (eq-eqb (list_length n l) 0 (omega arith)) is))
 
 -- a sum over the first m rows
 pub sum_taken : (m : ℕ) (f : List ℕ → ℕ) (t : Square) → m ≤ length t → sum_by f (take m t) ≡ sum_below m (λ a. f (row t a))

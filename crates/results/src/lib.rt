@@ -6,17 +6,17 @@ ghost use Rattle.writing.specs.Written.{HasRoom, Puts};
 ghost use Rattle.roommates.specs.Left.{partner_on, pairing_of, entry, row_entries, entries, entry_count, list_bytes};
 
 use lists::rows::list_length;
-use sections::Joints;
+use sections::{Joints, NO_JOINT};
 use writing::Writer;
 
-// the lowest joint on a list, 255 for none: the byte of a pairing
+// The lowest joint on a list, or the byte of none: a pairing's byte. Numbers narrow by `as` here: it is proved that they fit, and `try_from`
+// would have an error that cannot be.
 fn partner_on(n: Joints, row: &[u8; 128]) -> u8
     ensures { result ≡ partner_on n.count row.now }
 {
-    match (0..n.count).find(|b| 0 < row[*b]) {
-        Some(b) => b as u8,
-        None => 255,
-    }
+    (0..n.count)
+        .find(|b| 0 < row[*b])
+        .map_or(NO_JOINT, |b| b as u8)
 }
 
 // The pairing goes to the first n bytes.

@@ -29,8 +29,8 @@ impl TryFrom<u8> for Joints {
     }
 }
 
-// The byte of no joint.
-const NO_JOINT: u8 = 255;
+// The byte of no joint: of an unpaired joint's partner, and of a root's parent.
+pub const NO_JOINT: u8 = 255;
 
 // The joint that byte i names: an unpaired joint has no partner, and a root no parent.
 pub fn joint_in(bytes: &[u8], i: usize) -> Option<usize>

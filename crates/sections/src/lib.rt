@@ -9,7 +9,7 @@ ghost use Rattle.std.specs.Prelude.{◌≡◌};
 ghost use Rattle.sections.specs.Entries.{entry_in};
 
 pub use entry_section::read_entries;
-pub use joints::{Joints, joint_in};
+pub use joints::{Joints, NO_JOINT, joint_in};
 pub use label_section::{read_labels, visible_run};
 
 // The bytes of a label and of an entry.

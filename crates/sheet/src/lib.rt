@@ -18,7 +18,8 @@ use square::Listings;
 const LABELS: usize = 1;
 
 // The parts of a sheet: how many joints and entries; where the labels and the entries begin, and where the third section does, with its count:
-// at the sheet's end, if it is left out.
+// at the sheet's end, if it is left out. Places and no slices, since document 01 has an opened sheet carry where each section begins. A bare
+// count and no `Joints`: `parts_of` answers for any bytes, and a `Joints` comes with its bound, which not all have.
 #[derive(Clone, Copy)]
 pub struct Parts {
     pub joints: usize,
@@ -39,11 +40,11 @@ pub struct Sheet {
 fn extents(sheet: &[u8]) -> Result<Parts, Refusal>
     ensures { result ≡ answered (extents_fault sheet.now) (parts_of sheet.now) }
 {
-    if sheet.len() == 0 {
+    let Some((joints, labels)) = sheet.split_first() else {
         return Err(Refusal::SheetCutShort);
-    }
-    let n = Joints::try_from(sheet[0])?;
-    let size = sections::read_labels(&sheet[LABELS..], n)?;
+    };
+    let n = Joints::try_from(*joints)?;
+    let size = sections::read_labels(labels, n)?;
     let count = LABELS + size;
     let Some(bytes) = sheet[count..].first_chunk::<2>() else {
         return Err(Refusal::SheetCutShort);

@@ -60,7 +60,8 @@ impl Posed<'_> {
         (0..self.pairing.len()).find(|b| self.is_stray(*b))
     }
 
-    // The pairs that do not follow, if any does not.
+    // The pairs that do not follow, if any does not. Numbers narrow by `as`: it is proved that they fit, and `try_from` would have an error
+    // that cannot be.
     pub(crate) fn strays(&self) -> Option<Strays>
         ensures { result ≡ followed self.now.parents.now self.now.pairing.now }
     {

@@ -1,6 +1,6 @@
 -- From the last entry to the first: those that were met, in the order of the list, and which of them pass a test.
-use mathlib.Core.Path.{◌≡◌, sym, ap, subst, ◌∙◌}
-use mathlib.Core.Bool.{Bool, cond}
+use mathlib.Core.Path.{◌≡◌, refl, sym, ap, subst, ◌∙◌}
+use mathlib.Core.Bool.{Bool, true, false}
 use mathlib.Core.List.{List, [], ◌∷◌, ◌++◌, map, reverse}
 use Prim.Native.Nat.{ℕ, ◌-◌, ◌<◌}
 use native.Mathlib.Omega.{arith}
@@ -8,7 +8,6 @@ use denote.Ref.{Bor}
 use lib.Dec.{ltb}
 use lib.ListN.{length, get_or, length-reverse}
 use Rattle.std.proofs.lemmas.List.{map_push, length-map, get_or-map, get_or-reverse, reverse-append, reverse-reverse}
-use Rattle.base.proofs.Cases.{case, both_ways}
 use Rattle.sections.specs.declared.Entry.{Entry}
 use Rattle.sections.specs.Entries.{entry, entry_in, entries_in, entry_of}
 use Rattle.square.specs.Inside.{Fits, Inside}
@@ -41,13 +40,14 @@ met_fits entries inside x k h =
     get_or-map (λ (b : List ℕ). entry_in b 0) entries j x (entry 0 0 0) below ∙ ap (λ (b : List ℕ). entry_in b 0) is in
     subst Fits same (inside j (rw (length-map entries (λ (b : List ℕ). entry_in b 0)) below))
 
--- those that pass a test, placed
-module _ (test : ℕ → ℕ → Bool) where
-  placed_by : (b : Bool) (e : Entry) (es : List Entry) → placed (cond b (e ∷ es) es) ≡ cond b (put (placed es) e) (placed es)
-  placed_by b e es = case (both_ways b) (λ h. rw h (placed_more e es)) (λ h. rw h)
+-- the next one passes a test, and is put in its place; or it does not, and nothing is
+module _ (passes : ℕ → ℕ → Bool) (items : List (Bor (List ℕ))) (x : Bor (List ℕ)) {e : Entry} (is : e ≡ entry_in x.now 0)
+    {t : List (List ℕ)} (so_far : t ≡ placed (only passes (met items))) where
+  pub met_passes : passes e.joint e.other ≡ true → put t e ≡ placed (only passes (met (items ++ x ∷ [])))
+  met_passes h = rw (met_more items x, ← is, only_more passes e (met items), h, placed_more e (only passes (met items)), ← so_far) refl
 
-  pub passed_more : (e : Entry) (es : List Entry) → placed (only test (e ∷ es)) ≡ cond (test e.joint e.other) (put (placed (only test es)) e) (placed (only test es))
-  passed_more e es = rw (only_more test e es) (placed_by (test e.joint e.other) e (only test es))
+  pub met_fails : passes e.joint e.other ≡ false → t ≡ placed (only passes (met (items ++ x ∷ [])))
+  met_fails h = rw (met_more items x, ← is, only_more passes e (met items), h) so_far
 
 -- the square of all entries tells which of them are returned
 pub returned_across : (entries : List (List ℕ)) → Inside entries → (listed t : List (List ℕ)) → listed ≡ placed (entries_in entries)

@@ -1,5 +1,5 @@
 -- Laws of `only`: what holds of the entries holds of those that pass, and those have the bands of the places that pass.
-use mathlib.Core.Path.{◌≡◌, refl, ap₂, sym, ◌∙◌}
+use mathlib.Core.Path.{◌≡◌, refl, ap, ap₂, sym, ◌∙◌}
 use mathlib.Core.Bool.{Bool, true, false, cond}
 use mathlib.Core.List.{List, [], ◌∷◌}
 use Prim.Native.Nat.{ℕ, zero, suc, ◌≤◌}
@@ -107,3 +107,9 @@ pub only_agree : (f g : ℕ → ℕ → Bool) (es : List Entry) → Each (λ e. 
 unfolding only
 only_agree f g [] same = refl
 only_agree f g (e ∷ es) same = rw (same 0 (omega arith), only_agree f g es (λ j l. same (suc j) (omega arith)))
+
+-- and a test that all pass leaves them all
+pub only_all : (es : List Entry) → only (λ a b. true) es ≡ es
+unfolding only
+only_all [] = refl
+only_all (e ∷ es) = ap (λ (l : List Entry). e ∷ l) (only_all es)

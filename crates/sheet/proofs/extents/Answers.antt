@@ -1,5 +1,5 @@
 -- Each way out of `extents` is a law of its own; the places are named where a fact is first known.
-use Rattle.std.proofs.Common.{rules, ◌≡◌, List, ℕ, ◌+◌, ◌*◌, ◌≤◌, ◌<◌, length, drop, Err, refl, sym, ap, ◌∙◌}
+use Rattle.std.proofs.Common.{rules, ◌≡◌, List, ℕ, ◌+◌, ◌*◌, ◌≤◌, ◌<◌, length, drop, ◌∷◌, Err, refl, sym, ap, ◌∙◌}
 use native.Mathlib.Omega.{arith}
 use lib.ListN.{length-drop}
 use Rattle.base.proofs.Places.{rest_is}
@@ -18,22 +18,28 @@ use Rattle.sheet.proofs.SheetLaws.{two_bytes, accepted_as, no_joints_lem, many_j
 use Rattle.sheet.proofs.extents.Goals as goal
 use Rattle.sheet.proofs.extents.Goals.{After-read_labels, After-from-m, After-parents_extent, Else-sheet-end, In_ok-n, In_ok-size}
 
+-- a sheet that begins with a byte: the count of joints, and the labels' part behind it
+begun : (s : List ℕ) {n : ℕ} {rest : List ℕ} → s ≡ n ∷ rest → (length s ≡ 0 → ⊥) × (joints s ≡ n) × (labels_part s ≡ rest)
+begun s e = (λ z. omega (arith, z, ap length e), ap (λ (l : List ℕ). joints l) e, ap (λ (l : List ℕ). labels_part l) e)
+
 -- WHERE THE JOINTS ARE FEW: the sheet, and what is known of it
 abbrev sheet : In_ok-n → List ℕ
 sheet c = c.args.sheet.now
 
 some : (c : In_ok-n) → length (sheet c) ≡ 0 → ⊥
-some c = c.if-sheet-eq0.false
+some c = (begun (sheet c) c.in-Some.ensures.cases.0).0
 
 count : (c : In_ok-n) → c.in_ok-n.n.count ≡ joints (sheet c)
-count c = c.in_ok-n.ensures
+count c = c.in_ok-n.ensures ∙ sym (begun (sheet c) c.in-Some.ensures.cases.0).1
 
 few : (c : In_ok-n) → joints (sheet c) ≤ 128
 few c = let h = c.in_ok-n.n.few in omega (arith, count c)
 
 labels_are : (c : After-read_labels)
     → let at = (goal.at.After-read_labels c).In_ok-n in c.read_labels.result ≡ answered (labels_fault (joints (sheet at)) (labels_part (sheet at))) (label_width * joints (sheet at))
-labels_are c = rw (← count (goal.at.After-read_labels c).In_ok-n, ← rest_is _ _) c.read_labels.ensures
+labels_are c =
+    let at = (goal.at.After-read_labels c).In_ok-n in
+    rw (← count at, (begun (sheet at) at.in-Some.ensures.cases.0).2) c.read_labels.ensures
 
 labels_read : (c : In_ok-size)
     → let at = (goal.at.In_ok-size c).In_ok-n in
@@ -55,13 +61,13 @@ counted : (c : After-from-m) → let s = sheet (goal.at.After-from-m c).In_ok-n 
 counted c =
     let at = goal.at.After-from-m c in
     let s = sheet at.In_ok-n in
-    omega (arith, (labels_read at.In_ok-size).1, c.in-Some.ensures.cases.enough, ap length (rest_is (1 + c.in_ok-size.size) s), length-drop (1 + c.in_ok-size.size) s)
+    omega (arith, (labels_read at.In_ok-size).1, c.in-Some-first_chunk.ensures.cases.enough, ap length (rest_is (1 + c.in_ok-size.size) s), length-drop (1 + c.in_ok-size.size) s)
 
 count_is : (c : After-from-m) → c.from-m.result ≡ rank_count (sheet (goal.at.After-from-m c).In_ok-n)
 count_is c =
     let at = goal.at.After-from-m c in
     rw ((labels_read at.In_ok-size).1)
-    (c.from-m.ensures ∙ two_bytes (sheet at.In_ok-n) (1 + c.in_ok-size.size) c.in-Some.bytes.now _ c.in-Some.ensures.cases.same c.from_le_bytes.ensures)
+    (c.from-m.ensures ∙ two_bytes (sheet at.In_ok-n) (1 + c.in_ok-size.size) c.in-Some-first_chunk.bytes.now _ c.in-Some-first_chunk.ensures.cases.same c.from_le_bytes.ensures)
 
 abbrev whole : Else-sheet-end → List ℕ
 whole c = sheet (goal.at.Else-sheet-end c).In_ok-n
@@ -80,26 +86,29 @@ reaches c = let e = end_is c in omega (arith, c.if-sheet-end.false)
 
 -- the third section's extent, and what it decides
 extent_is : (c : After-parents_extent)
-    → let s = whole (goal.at.After-parents_extent c).Else-sheet-end in c.parents_extent.result ≡ answered (extent_fault (third s)) (length (third s))
+    → let s = whole (goal.at.After-parents_extent c).Else-sheet-end in c.parents_extent.result ≡ answered (extent_fault (third s)) (tt {0})
 extent_is c =
     let at = (goal.at.After-parents_extent c).Else-sheet-end in
     c.parents_extent.ensures
-    ∙ ap (λ (l : List ℕ). answered (extent_fault l) (length l)) (rest_is (end at) (whole at) ∙ ap (λ (k : ℕ). drop k (whole at)) (end_is at))
+    ∙ ap (λ (l : List ℕ). answered (extent_fault l) (tt {0})) (rest_is (end at) (whole at) ∙ ap (λ (k : ℕ). drop k (whole at)) (end_is at))
 
 decided : (c : Else-sheet-end) (k : ℕ) → extent_fault (third (whole c)) ≡ k → extents_fault (whole c) ≡ k
 decided c =
     let at = goal.at.Else-sheet-end c in
     by_third (whole c) (some at.In_ok-n) (few at.In_ok-n) (labels_read at.In_ok-size).0 (counted at.After-from-m) (reaches c)
 
-pub returns-then-sheet-eq0 : goal.returns-then-sheet-eq0
-returns-then-sheet-eq0 c =
-    let s = c.args.sheet.now in answered_refused (parts_of s) (extents_fault s) SheetCutShort (sym (no_joints_lem s c.if-sheet-eq0.true))
+pub returns-in_default : goal.returns-in_default
+returns-in_default c =
+    let s = c.args.sheet.now in
+    let none : length s ≡ 0 = search rules in
+    answered_refused (parts_of s) (extents_fault s) SheetCutShort (sym (no_joints_lem s none))
 
 pub returns-in_err-n : goal.returns-in_err-n
 returns-in_err-n c =
     let s = c.args.sheet.now in
     let told = c.in_err-n.ensures in
-    let refused = answered_refused (parts_of s) (extents_fault s) TooManyJoints (sym (many_joints s c.if-sheet-eq0.false told.1)) in
+    let (some, first, _) = begun s c.in-Some.ensures.cases.0 in
+    let refused = answered_refused (parts_of s) (extents_fault s) TooManyJoints (sym (many_joints s some (rw first told.1))) in
     let same : c.from_residual.result ≡ Err c.in_err-n.field-0.0 = search rules in
     same ∙ ap Err told.0 ∙ refused
 
@@ -125,13 +134,13 @@ slice_bounds-first_chunk-count c = reached (goal.at.slice_bounds-first_chunk-cou
 pub slice_bounds-first_chunk-start : goal.slice_bounds-first_chunk-start
 slice_bounds-first_chunk-start c = reached (goal.at.slice_bounds-first_chunk-start c).In_ok-size
 
-pub returns-in_default : goal.returns-in_default
-returns-in_default c =
-    let at = goal.at.returns-in_default c in
+pub returns-in_default-first_chunk : goal.returns-in_default-first_chunk
+returns-in_default-first_chunk c =
+    let at = goal.at.returns-in_default-first_chunk c in
     let s = c.args.sheet.now in
     let (good, size) = labels_read at.In_ok-size in
     let k = 1 + c.in_ok-size.size in
-    let short : length s < rank_start s = omega (arith, reached at.In_ok-size, size, c.in_default.ensures.cases, ap length (rest_is k s), length-drop k s) in
+    let short : length s < rank_start s = omega (arith, reached at.In_ok-size, size, c.in_default-first_chunk.ensures.cases, ap length (rest_is k s), length-drop k s) in
     answered_refused (parts_of s) (extents_fault s) SheetCutShort
     (sym (no_count s (some at.In_ok-n) (few at.In_ok-n) good short))
 

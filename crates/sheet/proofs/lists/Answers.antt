@@ -13,7 +13,7 @@ use Rattle.sections.proofs.Numbers.{entries_is_fault}
 use Rattle.square.specs.Inside.{Inside}
 use Rattle.square.specs.Mutual.{mutual_entries}
 use Rattle.square.proofs.MutualSquare.{sound_fits}
-use Rattle.parents.specs.Parents.{parents_in, parents_fault}
+use Rattle.parents.specs.Parents.{parents_fault}
 use Rattle.parents.proofs.ThirdLaws.{parents_is_fault}
 use Rattle.sheet.specs.declared.Parts.{Parts}
 use Rattle.sheet.specs.Format.{joints, rank_count, rankings_part, entries_of, third}
@@ -97,7 +97,7 @@ third_is c = rest_is (parts c).parents (sheet c) ∙ ap (λ (j : ℕ). drop j (s
 
 parents_are : (c : After-read_third)
     → let s = sheet (goal.at.After-read_third c).In_ok-parts in
-    c.read_third.result ≡ answered (parents_fault (joints s) (third s)) (length (parents_in (third s)))
+    c.read_third.result ≡ answered (parents_fault (joints s) (third s)) (tt {0})
 parents_are c =
     let at = (goal.at.After-read_third c).In_ok-parts in
     rw (← third_is at, ← (read at).n_joints) c.read_third.ensures

@@ -18,7 +18,7 @@ counts c = ap (λ (l : List ℕ). get_or l 0 0) c.in-Some.ensures.cases.0 ∙ sy
 pub returns-in_default : goal.returns-in_default
 returns-in_default c =
     let none : length c.args.third.now ≡ 0 = search rules in
-    rw none (answered_none 0 (extent_fault c.args.third.now) (extent_none _ none))
+    answered_none _ (extent_fault c.args.third.now) (extent_none _ none)
 
 pub returns-then-part-count : goal.returns-then-part-count
 returns-then-part-count c =
