@@ -3,6 +3,7 @@ pub mod FormLaws
 pub mod StepChunks
 pub mod TariffRule
 pub mod PriceLaws
+pub mod TermsLaws
 pub mod SumsKept
 -- the worked examples, by computation
 pub mod WorkedRows
