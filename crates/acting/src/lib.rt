@@ -1,4 +1,5 @@
-// One record acts on a working and its marks. For the crates above, which prove what they require.
+// One record acts on a working and its marks. For the crates above, which prove what they require. The two go beside each other and not in a
+// struct: so `save`'s signature says that it changes the marks alone, and `restore`'s that it changes the working alone.
 #![tactic(auto)]
 
 ghost use Rattle.std.specs.Prelude.{◌≡◌};

@@ -45,7 +45,8 @@ fn write_parents(joints: &[NamedJoint<'_>], out: &mut Writer<'_>)
     }
 }
 
-// The count of joints and their labels; no entries; the count of parents and these.
+// The count of joints and their labels; no entries; the count of parents and these. The count narrows by `as`: it is 128 at most, and `try_from`
+// would have an error that cannot be.
 pub fn write_sheet(joints: &[NamedJoint<'_>], out: &mut Writer<'_>)
     requires { Writable joints.now × HasRoom out.old (sheet_for (gathered joints.now)) }
     ensures { Puts out.old (sheet_for (gathered joints.now)) out.new }

@@ -9,6 +9,7 @@ ghost use Rattle.std.specs.Prelude.{◌≡◌, ◌<◌, ◌≤◌, length, take}
 ghost use Rattle.io.specs.Counts.{IsPrefixLen};
 ghost use Rattle.bvh2sheet.specs.Cut.{closed};
 ghost use Rattle.bvh2sheet.specs.Said.{refused_line};
+ghost use Rattle.refusals.specs.Numbers.{number_of};
 
 use io::{read_full, write_all};
 use refusals::Refusal;
@@ -51,18 +52,18 @@ fn read_text(input: &mut impl Read, text: &mut [u8]) -> usize
 }
 
 // Writes what is said of a refusal, and returns its length.
-fn write_refused(number: u8, line: &mut [u8; 12]) -> usize
+fn write_refused(refusal: Refusal, line: &mut [u8; 12]) -> usize
     ensures prefix_len { IsPrefixLen result line.new }
-    ensures line_after { take result line.new ≡ refused_line number }
+    ensures line_after { take result line.new ≡ refused_line (number_of refusal) }
 {
     let mut said = Writer::new(line);
-    said.number_line(b"refused ", usize::from(number));
+    said.number_line(b"refused ", usize::from(u8::from(refusal)));
     said.at
 }
 
 fn say_refused(refusal: Refusal) {
     let mut line = [0u8; 12];
-    let end = write_refused(u8::from(refusal), &mut line);
+    let end = write_refused(refusal, &mut line);
     write_all(STDERR, &line[..end]);
 }
 

@@ -1,11 +1,10 @@
 // Texts by their recipes: hierarchies from the generator, word by word, whole or with a word changed.
 ghost use Rattle.std.specs.Prelude.{◌<◌};
 
-use crate::spelling::{Text, WORDS, Word, gap_of, name_of, put_word, word_of};
+use crate::spelling::{
+    COUNTS, KEYWORDS, STRANGE_NAMES, Text, VALUES, Word, gap_of, name_of, put_word, word_of,
+};
 use samples::{next, put};
-
-// How many words the counts of channels count, which are 0, 1, 3, 003, 6 and 00..01.
-const CHANNEL_WORDS: [usize; 6] = [0, 1, 3, 3, 6, 1];
 
 // What a text is a part of: a few joints, many that nest deep, or many.
 #[derive(Clone, Copy, PartialEq, Eq)]
@@ -29,7 +28,8 @@ impl Mode {
     pub fn goal(self, x: u32) -> usize
         ensures { result < 200 }
     {
-        let y = (x % 65537) as usize;
+        // By `as`, since usize has no From<u32>; try_from would have an error that cannot be.
+        let y = x as usize;
         match self {
             Mode::Deep => 31 + y % 3,
             Mode::Many => 126 + y % 6,
@@ -53,42 +53,40 @@ impl Mode {
 // A change of a text: a word is left out, another stands in its place, another stands before it, or the text is cut at a byte.
 #[derive(Clone, Copy)]
 pub enum Change {
-    Nothing,
     LeaveOut(usize),
     Replace(usize, Word),
     Insert(usize, Word),
     Cut(usize),
 }
 
-impl Change {
-    // Is word k one that stands before another?
-    fn is_extra(self, k: usize) -> bool {
-        match self {
-            Change::Insert(place, _) => place == k,
-            _ => false,
-        }
-    }
-
-    // What stands for word k.
-    fn changed(self, k: usize, word: Word) -> Word {
-        match self {
-            Change::LeaveOut(place) if place == k => Word::Nothing,
-            Change::Replace(place, other) | Change::Insert(place, other) if place == k => other,
-            _ => word,
-        }
-    }
-}
-
-// What a text is made by: the generator's seed, a mode and a change.
+// What a text is made by: the generator's seed, a mode, and a change unless it is whole.
 #[derive(Clone, Copy)]
 pub struct Recipe {
     pub seed: u32,
     pub mode: Mode,
-    pub change: Change,
+    pub change: Option<Change>,
 }
 
-// The pieces of a text: HIERARCHY, a ROOT or a JOINT block up to its channels, an End Site, a closing brace, MOTION with or without words,
-// and the end.
+impl Recipe {
+    // Word k, if it is one that is inserted.
+    fn extra(&self, k: usize) -> Option<Word> {
+        match self.change {
+            Some(Change::Insert(place, word)) if place == k => Some(word),
+            _ => None,
+        }
+    }
+
+    // What stands for word k, unless it is left out.
+    fn changed(&self, k: usize, word: Word) -> Option<Word> {
+        match self.change {
+            Some(Change::LeaveOut(place)) if place == k => None,
+            Some(Change::Replace(place, other)) if place == k => Some(other),
+            _ => Some(word),
+        }
+    }
+}
+
+// The pieces of a text: HIERARCHY, a ROOT or a JOINT block up to its channels, an End Site, a closing brace, MOTION with or without words.
 #[derive(Clone, Copy, PartialEq, Eq)]
 enum Piece {
     Head,
@@ -97,7 +95,6 @@ enum Piece {
     EndSite,
     Closing,
     Last,
-    Over,
 }
 
 impl Piece {
@@ -109,13 +106,12 @@ impl Piece {
             Piece::EndSite => Word::Spelt(b"End"),
             Piece::Closing => Word::Spelt(b"}"),
             Piece::Last => Word::Spelt(b"MOTION"),
-            Piece::Over => Word::Nothing,
         }
     }
 }
 
 // Where the walk is: the generator's number, the piece, which of its words comes next and how many they are, how many blocks are open, how many
-// names there are; and the number of the gap, and the word, that came last.
+// names there are; and the number of the gap that came last.
 #[derive(Clone, Copy)]
 struct Walk {
     at: u32,
@@ -127,28 +123,27 @@ struct Walk {
     depth: usize,
     names: usize,
     gap: u32,
-    last: Word,
 }
 
 impl Walk {
-    // Which piece comes next.
-    fn next_piece(&self, x: u32) -> Piece {
+    // Which piece comes next, if any.
+    fn next_piece(&self, x: u32) -> Option<Piece> {
         let is_short = self.names < self.goal;
         if self.piece == Piece::Last {
-            return Piece::Over;
+            return None;
         }
         if self.depth == 0 {
             return match (is_short, x / 64 % 3) {
-                (true, _) => Piece::Root,
-                (false, 0) => Piece::Over,
-                (false, _) => Piece::Last,
+                (true, _) => Some(Piece::Root),
+                (false, 0) => None,
+                (false, _) => Some(Piece::Last),
             };
         }
-        match x % 8 {
+        Some(match x % 8 {
             7 => Piece::EndSite,
             k if k < self.mode.opens(is_short) => Piece::Joint,
             _ => Piece::Closing,
-        }
+        })
     }
 
     fn begin(&mut self, piece: Piece, x: u32) {
@@ -169,7 +164,7 @@ impl Walk {
         }
     }
 
-    // A name: a new one, but for some: a keyword, a special one, any of the others. These are rarer where there are many names.
+    // A name: a new one, but for some: a keyword, a strange one, any of the others. These are rarer where there are many names.
     fn name(&self, x: u32, y: u32) -> Word {
         let k = if self.mode == Mode::Small {
             y % 64
@@ -177,8 +172,8 @@ impl Walk {
             y % 1024
         };
         match k {
-            0 => Word::Spelt(WORDS[(x % 10) as usize]),
-            1 => Word::Spelt(WORDS[27 + (x % 9) as usize]),
+            0 => Word::Spelt(KEYWORDS[x as usize % 10]),
+            1 => Word::Spelt(STRANGE_NAMES[x as usize % 9]),
             2 => name_of(x as usize),
             _ => name_of(self.names),
         }
@@ -194,34 +189,36 @@ impl Walk {
             (3, _) => Word::Spelt(b"OFFSET"),
             (7, true) => Word::Spelt(b"}"),
             (7, false) => Word::Spelt(b"CHANNELS"),
-            (8, _) => Word::Spelt(WORDS[10 + (y % 6) as usize]),
+            (8, _) => Word::Spelt(COUNTS[y as usize % 6].0),
             _ => any_word(y),
         }
     }
 
-    // One word more, by two numbers: the first says which piece comes next, and the gap; the second says which word.
-    fn step(&mut self) {
+    // One word more, unless the text is over, by two numbers: the first says which piece comes next, and the gap; the second says which word.
+    fn step(&mut self) -> Option<Word> {
         let x = next(self.at);
         let y = next(x);
-        if self.end <= self.word {
-            self.begin(self.next_piece(x), x);
-        }
         self.at = y;
         self.gap = x / 8;
-        self.last = self.next_word(x, y);
-        if self.word == 8 {
-            self.end = 9 + CHANNEL_WORDS[(y % 6) as usize] % 7;
+        if self.end <= self.word {
+            let piece = self.next_piece(x)?;
+            self.begin(piece, x);
         }
+        if self.word == 8 {
+            self.end = 9 + usize::from(COUNTS[y as usize % 6].1);
+        }
+        let word = self.next_word(x, y);
         self.word = self.word.saturating_add(1);
+        Some(word)
     }
 }
 
-// A number, or any word.
+// A value, or any word.
 fn any_word(y: u32) -> Word {
     if y % 4 == 0 {
         word_of(y / 4)
     } else {
-        Word::Spelt(WORDS[19 + (y / 4 % 3) as usize])
+        Word::Spelt(VALUES[y as usize / 4 % 3])
     }
 }
 
@@ -237,17 +234,15 @@ pub fn put_text(text: &mut Text, recipe: Recipe) {
         depth: 0,
         names: 0,
         gap: 0,
-        last: Word::Nothing,
     };
     for k in 0..3000 {
-        if !recipe.change.is_extra(k) {
-            walk.step();
-        }
-        if walk.piece == Piece::Over {
+        let Some(word) = recipe.extra(k).or_else(|| walk.step()) else {
             put(text, gap_of(walk.gap, true));
             return;
-        }
+        };
         put(text, gap_of(walk.gap, k == 0));
-        put_word(text, recipe.change.changed(k, walk.last));
+        if let Some(word) = recipe.changed(k, word) {
+            put_word(text, word);
+        }
     }
 }

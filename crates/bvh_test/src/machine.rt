@@ -26,14 +26,14 @@ enum Due {
 }
 
 // A count above this one is as good as this one, since no text has so many words.
-const MOST: usize = 20000;
+const MOST: u32 = 20000;
 
 // What must come next, and how many words of any kind come before it; the joints whose blocks are open, the outermost first; and the joints
 // that were met, with their parents.
 #[derive(Drop)]
 pub struct Machine {
     due: Due,
-    left: usize,
+    left: u32,
     open: ArrayVec<u8, 32>,
     labels: ArrayVec<Label, 128>,
     pub parents: ArrayVec<u8, 128>,
@@ -44,11 +44,11 @@ fn is_gap(byte: u8) -> bool {
 }
 
 // What a word counts.
-fn count_of(word: &[u8]) -> Option<usize> {
-    let mut count = 0usize;
+fn count_of(word: &[u8]) -> Option<u32> {
+    let mut count = 0u32;
     for byte in word {
         let digit = char::from(*byte).to_digit(10)?;
-        count = (10 * count.min(MOST) + digit as usize).min(MOST);
+        count = (10 * count.min(MOST) + digit).min(MOST);
     }
     Some(count)
 }
@@ -161,6 +161,7 @@ impl Machine {
         let _ = self.labels.try_push(label);
         let parent = self.open.last().copied().unwrap_or(255);
         let _ = self.parents.try_push(parent);
+        // By `as`, since a number below 128 fits; try_from would have an error that cannot be.
         let _ = self.open.try_push(joints as u8);
         self.due = Due::Brace;
     }
@@ -176,7 +177,7 @@ impl Machine {
 
     // The sheet: labels, no entries and parents.
     pub fn put_sheet(&self, sheet: &mut ArrayVec<u8, 2180>) {
-        let n = (self.labels.len() % 256) as u8;
+        let n = self.labels.len() as u8;
         put(sheet, &[n]);
         put(sheet, self.labels.as_flattened());
         put(sheet, &[0, 0, n]);

@@ -77,6 +77,7 @@ fn try_text(counts: &mut Counts, part: Part, number: u32, text: &[u8]) {
 
 // The change k of the one text: at each word each of 40 words in its place, each before it, and the word left out.
 fn change_of(k: u32) -> Change {
+    // By `as`, since usize has no From<u32>; try_from would have an error that cannot be.
     let place = (k / 81) as usize;
     let word = word_of(k % 81);
     match k % 81 / 40 {
@@ -96,11 +97,11 @@ fn drawn_recipe(round: u32) -> Recipe {
     let place = y as usize % (12 * goal + 1);
     let word = word_of(x / 8);
     let change = match x % 8 % 5 {
-        0 => Change::Nothing,
-        1 => Change::LeaveOut(place),
-        2 => Change::Replace(place, word),
-        3 => Change::Insert(place, word),
-        _ => Change::Cut(y as usize % (64 * goal + 1)),
+        0 => None,
+        1 => Some(Change::LeaveOut(place)),
+        2 => Some(Change::Replace(place, word)),
+        3 => Some(Change::Insert(place, word)),
+        _ => Some(Change::Cut(y as usize % (64 * goal + 1))),
     };
     Recipe { seed, mode, change }
 }
@@ -118,7 +119,7 @@ fn recipe_of(k: u32) -> (Part, Recipe) {
     let recipe = Recipe {
         seed: SEED,
         mode: Mode::Small,
-        change,
+        change: Some(change),
     };
     (part, recipe)
 }
@@ -128,7 +129,7 @@ fn try_number(counts: &mut Counts, k: u32) {
     let mut text = Text::new();
     put_text(&mut text, recipe);
     let end = match recipe.change {
-        Change::Cut(place) => place.min(text.len()),
+        Some(Change::Cut(place)) => place.min(text.len()),
         _ => text.len(),
     };
     try_text(counts, part, k, &text[..end]);

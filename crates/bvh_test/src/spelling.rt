@@ -2,17 +2,15 @@
 use arrayvec::ArrayVec;
 use samples::put;
 
-// A word: none, one that is written out, or a name by its number, n and two letters.
+// A word: one that is written out, or a name by its number, n and two letters.
 #[derive(Clone, Copy)]
 pub enum Word {
-    Nothing,
     Spelt(&'static [u8]),
     Name(u8),
 }
 
-// Keywords, 10 of them; 6 counts, and 3 that are none; 3 numbers or words; keywords misspelt; and from place 27 on 9 that stand for names. A table,
-// since a drawn number is a place in it.
-pub const WORDS: [&[u8]; 36] = [
+// The words that are written out, by their kinds: a drawn number is a place among one kind's, or among all of them.
+pub const KEYWORDS: [&[u8]; 10] = [
     b"HIERARCHY",
     b"ROOT",
     b"JOINT",
@@ -23,23 +21,28 @@ pub const WORDS: [&[u8]; 36] = [
     b"End",
     b"Site",
     b"MOTION",
-    b"0",
-    b"1",
-    b"3",
-    b"003",
-    b"6",
-    b"000000000000000000000000001",
-    b"99999999999999999999",
-    b"18446744073709551617",
-    b"2x",
-    b"-1.5e-3",
-    b"12.25",
-    b"Zrotation",
-    b"root",
-    b"END",
-    b"JOINTS",
-    b"MOTIO",
-    b"{}",
+];
+
+// Each with how many words it counts.
+pub const COUNTS: [(&[u8], u8); 6] = [
+    (b"0", 0),
+    (b"1", 1),
+    (b"3", 3),
+    (b"003", 3),
+    (b"6", 6),
+    (b"000000000000000000000000001", 1),
+];
+
+// Two counts above every usize, and a word that is none.
+const BAD_COUNTS: [&[u8]; 3] = [b"99999999999999999999", b"18446744073709551617", b"2x"];
+
+// What stands behind OFFSET or a count: numbers and names of channels.
+pub const VALUES: [&[u8]; 3] = [b"-1.5e-3", b"12.25", b"Zrotation"];
+
+const MISSPELT: [&[u8]; 5] = [b"root", b"END", b"JOINTS", b"MOTIO", b"{}"];
+
+// What stands for a name: the first and the last visible byte, a drawn name's beginning, 16 bytes, 17, and four with a byte that is not visible.
+pub const STRANGE_NAMES: [&[u8]; 9] = [
     b"!",
     b"~",
     b"nD",
@@ -57,7 +60,6 @@ pub type Text = ArrayVec<u8, 16384>;
 // A word at the end of the text.
 pub fn put_word(text: &mut Text, word: Word) {
     match word {
-        Word::Nothing => {}
         Word::Spelt(bytes) => put(text, bytes),
         Word::Name(k) => put(text, &[b'n', 65 + k / 16, 65 + k % 16]),
     }
@@ -74,15 +76,23 @@ pub fn gap_of(x: u32, is_end: bool) -> &'static [u8] {
     }
 }
 
-// One of 200 names.
+// One of 200 names. By `as`, since a number below 250 fits; try_from would have an error that cannot be.
 pub fn name_of(k: usize) -> Word {
     Word::Name((50 + k % 200) as u8)
 }
 
-// One of 40 words: those of the table, and four names.
+// One of 40 words: those above, and four names.
 pub fn word_of(k: u32) -> Word {
-    let place = (k % 40) as usize;
-    match WORDS.get(place) {
+    let place = k as usize % 40;
+    let counts = COUNTS.map(|(bytes, _)| bytes);
+    let mut words = KEYWORDS
+        .iter()
+        .chain(&counts)
+        .chain(&BAD_COUNTS)
+        .chain(&VALUES)
+        .chain(&MISSPELT)
+        .chain(&STRANGE_NAMES);
+    match words.nth(place) {
         Some(bytes) => Word::Spelt(bytes),
         None => name_of(place % 36),
     }

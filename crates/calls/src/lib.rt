@@ -1,4 +1,5 @@
-// The calls settle, shorten and counts over a sheet's bytes.
+// The calls settle, shorten and counts over a sheet's bytes. Numbers narrow by `as`: they fit, as the clauses show, and `try_from` would have an
+// error that cannot be.
 #![tactic(auto)]
 
 pub mod counting;

@@ -25,8 +25,8 @@ fn write_pairing(n: Joints, lists: &[[u8; 128]; 128], out: &mut [u8]) -> u32
     count_pairs(&out[..n.count]) as u32
 }
 
-// Settles rankings: none with its phase, or a pairing, whose partner bytes begin the buffer. A working that was not refused has ended, so
-// none of one that goes on is never answered.
+// Settles rankings: none with its phase, or a pairing, whose partner bytes begin the buffer. A working that was not refused has ended; of one
+// that goes on the definitions say none in phase two, and so does this.
 pub fn settle_lists(
     rankings: &Rankings,
     choices: &[u8],
@@ -40,7 +40,7 @@ pub fn settle_lists(
         return Err(Refusal::OutTooShort);
     }
     let task = Task {
-        joints: rankings.joints,
+        joints: n,
         whole: true,
     };
     let mut working = Working::begin(task, &rankings.bands);

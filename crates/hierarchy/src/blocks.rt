@@ -1,4 +1,5 @@
-// Blocks and their children. Joints are gathered as they are met.
+// Blocks and their children. Joints are gathered as they are met. A number narrows by `as`: the joints are 128 at most, and `try_from` would have
+// an error that cannot be.
 ghost use Rattle.words.specs.Words.{words};
 ghost use Rattle.hierarchy.specs.Hierarchy.{block, children};
 ghost use Rattle.hierarchy.specs.Gathered.{gathered, Answered};

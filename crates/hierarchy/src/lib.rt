@@ -1,4 +1,5 @@
-// Reads the hierarchy that a text begins with. For the crates above, which prove what they require.
+// Reads the hierarchy that a text begins with. For the crates above, which prove what they require. Each function takes a text and answers what
+// is left of it, as those for words and headings do; a struct of a text and the joints would be a second way to read.
 #![tactic(auto)]
 
 mod blocks;

@@ -5,10 +5,14 @@
 // fails ends the program.
 #![tactic(auto)]
 
+const STDIN: i32 = 0;
+
+const STDOUT: i32 = 1;
+
 fn main() {
     let mut sheet = io::large_buffer();
-    let size = io::read_full(0, &mut sheet);
+    let size = io::read_full(STDIN, &mut sheet);
     let mut text = [0u8; 4400];
     let length = listing::list_sheet(&sheet[..size], &mut text);
-    io::write_all(1, &text[..length]);
+    io::write_all(STDOUT, &text[..length]);
 }

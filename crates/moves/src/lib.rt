@@ -1,4 +1,5 @@
-// One move of a working: a choice in whatever stage. For the crates above, which prove what they require.
+// One move of a working: a choice in whatever stage. For the crates above, which prove what they require. `Roomy` says that the counts do not
+// overflow at one move more; it is no invariant, since what a move leaves need not be roomy.
 #![tactic(auto)]
 
 ghost use Rattle.std.specs.Prelude.{◌≡◌};
@@ -51,7 +52,7 @@ pub fn make_move(working: &mut Working, x: usize) -> Result<(), Refusal>
     match working.stage {
         Stage::Proposing => move_one(working, x),
         Stage::Cutting => move_two(working, x),
-        // an arm for each, since each is an end of its own that a choice must not move
+        // an arm for each, and no or-pattern: its proof would go by the same three cases, and wrong programs that move one end alone are tried
         Stage::NoneOne => Err(Refusal::ChoiceLeftOver),
         Stage::NoneTwo => Err(Refusal::ChoiceLeftOver),
         Stage::Paired => Err(Refusal::ChoiceLeftOver),

@@ -3,7 +3,7 @@ ghost use Rattle.std.specs.Prelude.{◌≡◌, ℕ, ◌<◌, Some, Ok};
 ghost use Rattle.offered.specs.Checks.{check_of};
 ghost use Rattle.pairing.specs.CCodes.{checked_code};
 
-use crate::{COUNT, VERDICT, number};
+use crate::{number, packed};
 use refusals::Refusal;
 
 fn checked_code(answer: Result<Option<u32>, Refusal>) -> u32
@@ -11,9 +11,9 @@ fn checked_code(answer: Result<Option<u32>, Refusal>) -> u32
     ensures { result ≡ checked_code answer }
 {
     match answer {
-        Err(refusal) => number(refusal),
-        Ok(None) => VERDICT,
-        Ok(Some(pair)) => COUNT * pair,
+        Err(refusal) => packed(number(refusal), 0, 0),
+        Ok(None) => packed(0, 1, 0),
+        Ok(Some(pair)) => packed(0, 0, pair),
     }
 }
 

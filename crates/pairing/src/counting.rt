@@ -3,18 +3,20 @@ ghost use Rattle.std.specs.Prelude.{◌≡◌, ◌<◌};
 ghost use Rattle.calls.specs.Calls.{counts_of};
 ghost use Rattle.pairing.specs.CCodes.{counts_code};
 
-use crate::number;
+use crate::{COUNT, number};
 use calls::Counts;
+
+// What cuts weigh in a number of 64 bits, above the proposals.
+const CUTS: u64 = 4294967296;
 
 fn counts_code(counts: Counts) -> u64
     requires { counts.proposals < 65536 }
     ensures { result ≡ counts_code counts }
 {
-    let beside = match counts.refusal {
-        None => 0,
-        Some(refusal) => number(refusal),
-    };
-    u64::from(beside) + 65536 * u64::from(counts.proposals) + 4294967296 * u64::from(counts.cuts)
+    let beside = counts.refusal.map_or(0, number);
+    u64::from(beside)
+        + u64::from(COUNT) * u64::from(counts.proposals)
+        + CUTS * u64::from(counts.cuts)
 }
 
 // the counts of settle's working if `whole`, else of shorten's

@@ -3,7 +3,7 @@ ghost use Rattle.std.specs.Prelude.{◌≡◌, ℕ, ◌<◌};
 ghost use Rattle.skeleton.specs.Answers.{answer_astray, follow_of};
 ghost use Rattle.pairing.specs.CCodes.{followed_code};
 
-use crate::{COUNT, VERDICT, number};
+use crate::{number, packed};
 use refusals::Refusal;
 use skeleton::Strays;
 
@@ -12,9 +12,9 @@ fn followed_code(answer: Result<Option<Strays>, Refusal>) -> u32
     ensures { result ≡ followed_code answer }
 {
     match answer {
-        Err(refusal) => number(refusal),
-        Ok(None) => 0,
-        Ok(Some(strays)) => VERDICT * strays.pairs + COUNT * strays.lowest,
+        Err(refusal) => packed(number(refusal), 0, 0),
+        Ok(None) => packed(0, 0, 0),
+        Ok(Some(strays)) => packed(0, strays.pairs, strays.lowest),
     }
 }
 

@@ -3,18 +3,17 @@ ghost use Rattle.std.specs.Prelude.{◌≡◌, ℕ, ◌<◌, Ok, length};
 ghost use Rattle.bvh.specs.Answers.{import_of, import_into};
 ghost use Rattle.pairing.specs.CCodes.{imported_code};
 
-use crate::number;
+use crate::{VERDICT, number};
 use refusals::Refusal;
 
-// What a length weighs beside the refusal's byte.
-const LENGTH: u32 = 256;
-
+// The length stands where a verdict does, and goes on above it. It narrows by `as`: it fits, as the clause says, and `try_from` would have an error
+// that cannot be.
 fn imported_code(answer: Result<usize, Refusal>) -> u32
     requires { (size : ℕ) → answer ≡ Ok size → size < 65536 }
     ensures { result ≡ imported_code answer }
 {
     match answer {
-        Ok(size) => LENGTH * size as u32,
+        Ok(size) => VERDICT * size as u32,
         Err(refusal) => number(refusal),
     }
 }

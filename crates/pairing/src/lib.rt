@@ -10,19 +10,31 @@ pub mod settling;
 pub mod shortening;
 pub mod version;
 
-ghost use Rattle.std.specs.Prelude.{◌≡◌};
+ghost use Rattle.std.specs.Prelude.{◌≡◌, ◌<◌};
 ghost use Rattle.refusals.specs.Numbers.{number_of};
+ghost use Rattle.pairing.specs.CCodes.{packed};
 
 use refusals::Refusal;
 
-// What a verdict and a count weigh in a number of 32 bits, beside the refusal's.
-pub(crate) const VERDICT: u32 = 256;
+// What a verdict and what stands above it weigh in an answer, beside the refusal's number.
+const VERDICT: u32 = 256;
 
-pub(crate) const COUNT: u32 = 65536;
+const COUNT: u32 = 65536;
+
+// The verdict of a pairing, and of lists.
+pub(crate) const DONE: u32 = 3;
 
 // A refusal's number, which is an answer's lowest byte.
 fn number(refusal: Refusal) -> u32
     ensures { result ≡ number_of refusal }
 {
     u32::from(u8::from(refusal))
+}
+
+// An answer of 32 bits.
+fn packed(number: u32, verdict: u32, count: u32) -> u32
+    requires { (number < 256) × ((verdict < 256) × (count < 65536)) }
+    ensures { result ≡ packed number verdict count }
+{
+    number + VERDICT * verdict + COUNT * count
 }

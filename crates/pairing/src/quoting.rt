@@ -3,24 +3,20 @@ ghost use Rattle.std.specs.Prelude.{◌≡◌, ℕ, ◌*◌, ◌≤◌, Ok};
 ghost use Rattle.quote.specs.Quotes.{quote_answer};
 ghost use Rattle.pairing.specs.CCodes.{quoted_code};
 
-use crate::number;
+use crate::{COUNT, DONE, number, packed};
 use calls::End;
 use refusals::Refusal;
 use tariff::Cents;
 
-// What a verdict and a sum weigh in a number of 64 bits, beside the refusal's.
-const VERDICT: u64 = 256;
-
-const SUM: u64 = 65536;
-
+// With `settled_code` no one function of a type: a sum needs 64 bits, and a clause would have to say of each type what number its value is.
 fn quoted_code(answer: Result<End<Cents>, Refusal>) -> u64
     requires { (k : ℕ) → answer ≡ Ok (End.Paired k) → k ≤ 64 * 4294967295 }
     ensures { result ≡ quoted_code answer }
 {
     match answer {
-        Err(refusal) => u64::from(number(refusal)),
-        Ok(End::None(phase)) => VERDICT * u64::from(u8::from(phase)),
-        Ok(End::Paired(sum)) => 3 * VERDICT + SUM * sum,
+        Err(refusal) => u64::from(packed(number(refusal), 0, 0)),
+        Ok(End::None(phase)) => u64::from(packed(0, u32::from(u8::from(phase)), 0)),
+        Ok(End::Paired(sum)) => u64::from(packed(0, DONE, 0)) + u64::from(COUNT) * sum,
     }
 }
 

@@ -3,7 +3,7 @@ ghost use Rattle.std.specs.Prelude.{◌≡◌, ℕ, ◌<◌, Ok};
 ghost use Rattle.calls.specs.Calls.{settle_answer, settle_bytes};
 ghost use Rattle.pairing.specs.CCodes.{settled_code};
 
-use crate::{COUNT, VERDICT, number};
+use crate::{DONE, number, packed};
 use calls::End;
 use refusals::Refusal;
 
@@ -12,9 +12,9 @@ fn settled_code(answer: Result<End<u32>, Refusal>) -> u32
     ensures { result ≡ settled_code answer }
 {
     match answer {
-        Err(refusal) => number(refusal),
-        Ok(End::None(phase)) => VERDICT * u32::from(u8::from(phase)),
-        Ok(End::Paired(count)) => 3 * VERDICT + COUNT * count,
+        Err(refusal) => packed(number(refusal), 0, 0),
+        Ok(End::None(phase)) => packed(0, u32::from(u8::from(phase)), 0),
+        Ok(End::Paired(count)) => packed(0, DONE, count),
     }
 }
 

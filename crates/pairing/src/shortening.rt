@@ -3,7 +3,7 @@ ghost use Rattle.std.specs.Prelude.{◌≡◌, ℕ, ◌<◌, Some, Ok};
 ghost use Rattle.calls.specs.Calls.{shorten_answer, shorten_bytes};
 ghost use Rattle.pairing.specs.CCodes.{shortened_code};
 
-use crate::{COUNT, VERDICT, number};
+use crate::{DONE, number, packed};
 use refusals::Refusal;
 
 fn shortened_code(answer: Result<Option<u32>, Refusal>) -> u32
@@ -11,9 +11,9 @@ fn shortened_code(answer: Result<Option<u32>, Refusal>) -> u32
     ensures { result ≡ shortened_code answer }
 {
     match answer {
-        Err(refusal) => number(refusal),
-        Ok(None) => VERDICT,
-        Ok(Some(count)) => 3 * VERDICT + COUNT * count,
+        Err(refusal) => packed(number(refusal), 0, 0),
+        Ok(None) => packed(0, 1, 0),
+        Ok(Some(count)) => packed(0, DONE, count),
     }
 }
 

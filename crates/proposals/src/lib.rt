@@ -101,7 +101,7 @@ pub fn run_on(n: Joints, bands: &mut [[u8; 128]; 128], made: &mut Progress)
     ensures { (s : Stage) (aside : List ℕ) (c : ℕ) → work s bands.new made.new.reach made.new.received aside made.new.proposals c
         ≡ phase_one n.count (work s bands.old made.old.reach made.old.received aside made.old.proposals c) }
 {
-    // as many turns as the definition has, and more than there are
+    // as many turns as the definition has, and more than there are; a `while let` would want a measure, and the count of turns is one
     let turns = n.count * n.count + 1;
     for _turn in 0..turns {
         let Some(p) = lowest_waiting(n, bands, &made.reach) else {

@@ -14,6 +14,7 @@ pub struct Part {
 impl Part {
     pub fn note(&mut self, said: Answer) {
         add(&mut self.quotes, 1);
+        // By `as`, since the low 32 bits fit; try_from would have an error that cannot be.
         add(&mut self.sum, (number_of(said) % 4294967296) as u32);
     }
 }

@@ -35,7 +35,7 @@ fn quoted(sheet: &[u8], choices: &[u8], tariff: &[u8], rebate: u32) -> Answer {
     quote(sheet, choices, tariff, rebate).map_err(u8::from)
 }
 
-// The library's phase for the rules', which stand apart from it. settle_test needs the way back alone, so one place would hold both functions.
+// The rules' phase as the library's. No From, since both are types of other crates, which stand apart; settle_test needs the other way only.
 fn phase_of(phase: rules::Phase) -> Phase {
     match phase {
         rules::Phase::One => Phase::One,
@@ -67,6 +67,7 @@ fn due(tariff: &Tariff, rebate: u32, working: Result<Said, u8>) -> Option<Answer
 fn try_number(counts: &mut Counts, round: u32)
     requires { round < 520 }
 {
+    // By `as`, since usize has no From<u32>; try_from would have an error that cannot be.
     let sheet = sheet_of_pairs((round / 8) as usize);
     let x = next(7 * round + 3);
     let rebate = next(x) % 10001;
@@ -91,16 +92,15 @@ fn try_number(counts: &mut Counts, round: u32)
 enum Damage {
     Short,
     Long,
-    Nothing,
 }
 
 impl Damage {
     // Of sixteen sheets each is wrong with one.
-    fn drawn(x: u32) -> Damage {
+    fn drawn(x: u32) -> Option<Damage> {
         match x % 16 {
-            0 => Damage::Short,
-            1 => Damage::Long,
-            _ => Damage::Nothing,
+            0 => Some(Damage::Short),
+            1 => Some(Damage::Long),
+            _ => None,
         }
     }
 
@@ -110,16 +110,14 @@ impl Damage {
                 let _ = sheet.pop();
             }
             Damage::Long => put(sheet, &[0, 0]),
-            Damage::Nothing => {}
         }
     }
 
     // The refusal that is due before any other.
-    fn refused(self) -> Option<u8> {
+    fn refused(self) -> u8 {
         match self {
-            Damage::Short => Some(1),
-            Damage::Long => Some(8),
-            Damage::Nothing => None,
+            Damage::Short => 1,
+            Damage::Long => 8,
         }
     }
 }
@@ -132,14 +130,16 @@ fn try_round(counts: &mut Counts, round: u32) {
     let mut sheet = varied_sheet(round, 181 * (round % 65536) % 65537);
     let walk = drawn_walk(&Work::fresh(Call::Settle, &sheet), b);
     let damage = Damage::drawn(a / 32);
-    damage.put_in(&mut sheet.bytes);
+    if let Some(damage) = damage {
+        damage.put_in(&mut sheet.bytes);
+    }
     let tariff = drawn_tariff(c, Form::drawn(a));
     let rebate = tariffs::rebate(next(c));
     let said = quoted(&sheet.bytes, &walk.list, &tariff, rebate);
     counts.sheets.note(said);
     counts.note_kind(said);
-    let expected = match damage.refused() {
-        Some(number) => Some(Err(number)),
+    let expected = match damage {
+        Some(damage) => Some(Err(damage.refused())),
         None => due(&tariff, rebate, walk.end),
     };
     counts.comparisons.compare("the quote of a random sheet", round, Some(said) == expected);

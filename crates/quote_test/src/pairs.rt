@@ -9,6 +9,7 @@ pub fn sheet_of_pairs(k: usize) -> LongSheet
 {
     let n = 2 * k;
     let mut sheet = long_labels(n);
+    // By `as`, since numbers up to 128 fit; try_from would have an error that cannot be.
     put(&mut sheet, &[n as u8, 0]);
     for i in 0..n {
         let other = if i % 2 == 0 { i + 1 } else { i - 1 };

@@ -15,6 +15,7 @@ fn beginning(before: Option<u8>, x: u32, spread: u32) -> u8 {
         return 1;
     };
     let apart = x % (spread % 12 + 1) % 12 + 1;
+    // By `as`, since a number below 256 fits; try_from would have an error that cannot be.
     ((u32::from(before) + apart) % 256) as u8
 }
 

@@ -65,6 +65,7 @@ fn ending(list: &Choices, bytes: &[u8], end: Result<Said, u8>) -> Walk {
 pub fn drawn_walk(start: &Work, seed: u32) -> Walk {
     let path = steps(start, seed, seed / 16 % 12);
     let list = &path.list;
+    // By `as`, since a number below 10 fits; try_from would have an error that cannot be.
     let joint = (seed % 65537 / 192 % 10) as u8;
     match seed % 16 {
         0 => ending(list, &[0], Err(14)),

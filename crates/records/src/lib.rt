@@ -8,7 +8,8 @@ ghost use Rattle.records.specs.Choices.{recorded};
 
 use refusals::Refusal;
 
-// A record of two bytes. Kind 0 chooses a joint, 1 sets a mark, 2 returns to it.
+// A record of two bytes. Kind 0 chooses a joint, 1 sets a mark, 2 returns to it; any other is refused when its turn comes, so a record has a byte
+// for its kind, as the definitions have.
 #[derive(Clone, Copy)]
 pub struct Record {
     pub kind: u8,

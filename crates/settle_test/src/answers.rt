@@ -7,7 +7,7 @@ use replay::Choices;
 use rules::{Answer, Call, Counts, Phase, Said};
 use samples::{FILL, Sheet};
 
-// The rules' phase for the library's: they stand apart from it. quote_test needs the way back alone, so one place would hold both functions.
+// The library's phase as the rules'. No From, since both are types of other crates, which stand apart; quote_test needs the other way only.
 fn phase_of(phase: calls::Phase) -> Phase {
     match phase {
         calls::Phase::One => Phase::One,

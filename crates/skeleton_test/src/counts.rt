@@ -20,6 +20,21 @@ struct Sums {
     lowest: u32,
 }
 
+impl fmt::Display for Sums {
+    fn fmt<W: fmt::Write>(&self, f: &mut fmt::Formatter<W>) -> fmt::Result {
+        writeln!(
+            f,
+            "all pairs follow, some do not: {} {} {}",
+            self.calls, self.all, self.astray
+        )?;
+        write!(
+            f,
+            "pairs that do not follow, their lowest numbers summed: {} {}",
+            self.pairs, self.lowest
+        )
+    }
+}
+
 #[derive(Drop)]
 pub struct Counts {
     pub comparisons: Comparisons,
@@ -62,33 +77,18 @@ impl Counts {
 
 impl fmt::Display for Counts {
     fn fmt<W: fmt::Write>(&self, f: &mut fmt::Formatter<W>) -> fmt::Result {
-        let Counts { every, drawn, .. } = self;
         writeln!(f, "{}", self.comparisons)?;
         writeln!(
             f,
-            "every skeleton of up to 6 joints with every matching, all pairs follow, some do not: {} {} {}",
-            every.calls, every.all, every.astray
-        )?;
-        writeln!(
-            f,
-            "pairs that do not follow, their lowest numbers summed: {} {}",
-            every.pairs, every.lowest
+            "every skeleton of up to 6 joints with every matching, {}",
+            self.every
         )?;
         writeln!(
             f,
             "depths of the joints of every skeleton, summed: {}",
             self.depths
         )?;
-        writeln!(
-            f,
-            "random sheets, all pairs follow, some do not: {} {} {}",
-            drawn.calls, drawn.all, drawn.astray
-        )?;
-        writeln!(
-            f,
-            "pairs that do not follow, their lowest numbers summed: {} {}",
-            drawn.pairs, drawn.lowest
-        )?;
+        writeln!(f, "random sheets, {}", self.drawn)?;
         write!(
             f,
             "refused 1, 8, 10, 18, by any other number:{} {}",

@@ -17,14 +17,17 @@ use roommates::Stage;
 use ruling::{longest_list, lowest_waiting};
 use sections::Joints;
 
-// What is worked on: how many joints, and settle's working if `whole`, else shorten's. A flag, as C's call has it.
+// What is worked on: how many joints, and settle's working if `whole`, else shorten's. A flag, as the definitions and C's call of the counts
+// have it: an enum would be turned into it in each clause.
 #[derive(Clone, Copy)]
 pub struct Task {
     pub joints: Joints,
     pub whole: bool,
 }
 
-// next: the joint that the rule names, if any; aside: 1 for a joint set aside, else 0, bytes as those that say who received.
+// next: the joint that the rule names, if any; aside: 1 for a joint set aside, else 0, bytes as those that say who received. The stage
+// is the definitions' own, so the joint stands beside it and not in it. `Lawful` is what a working is that may go on; it is no invariant, since a
+// move changes the lists first and then the stage.
 #[derive(Clone, Copy)]
 pub struct Working {
     pub task: Task,

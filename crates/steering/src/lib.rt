@@ -35,7 +35,8 @@ fn follow(working: &mut Working, records: &[[u8; 2]]) -> Result<(), Refusal>
     Ok(())
 }
 
-// The rule's moves, one by one, to the end.
+// The rule's moves, one by one, to the end. As many turns as the definition has, and more than there are: a `while let` would want a measure, and
+// the count of turns is one.
 fn go_on(working: &mut Working)
     requires { Lawful working.old }
     ensures { work_of working.new ≡ ended (turns working.old.task.joints.count) working.old }

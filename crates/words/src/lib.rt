@@ -23,7 +23,8 @@ fn is_gap(b: u8) -> bool
     matches!(b, b' ' | b'\t' | b'\n' | b'\r')
 }
 
-// How many gaps the text begins with.
+// How many gaps the text begins with. This, `word_length` and `visible_run` of sections are each one call of the library's already: a function of
+// a test for all would be that call again.
 fn gaps(text: &[u8]) -> usize
     ensures within { result ≤ length text.now }
     ensures before { (i : ℕ) → i < result → is_gap (slice_index text.now i) ≡ true }
