@@ -8,70 +8,69 @@ ghost use Rattle.blocking.specs.Answers.{offer_of};
 
 use matching::{Offered, pair_number, partner};
 use refusals::Refusal;
-use sections::Joints;
 
 // Partner bytes that are a matching.
 #[derive(Clone, Copy)]
 struct Matched<'a> {
-    joints: Joints,
-    bands: &'a [[u8; 128]; 128],
-    pairing: &'a [u8],
-    ghost matching: { is_matching joints.count bands.now pairing.now ≡ true },
+    offered: Offered<'a>,
+    ghost matching: { is_matching offered.joints.count offered.bands.now offered.pairing.now ≡ true },
 }
 
 impl Matched<'_> {
     // a is unpaired, or has b in a band no worse than its partner's.
     #[tactic(auto, unfolding(crate::specs::Blocking::welcomes))]
     fn welcomes(&self, a: usize, b: usize) -> bool
-        requires { (a < self.now.joints.count) × (b < self.now.joints.count) }
-        ensures { result ≡ welcomes self.now.bands.now self.now.pairing.now a b }
+        requires { (a < self.now.offered.joints.count) × (b < self.now.offered.joints.count) }
+        ensures { result ≡ welcomes self.now.offered.bands.now self.now.offered.pairing.now a b }
     {
-        let offered = self.bands[a][b];
-        match partner(self.pairing, a) {
+        let Offered { bands, pairing, .. } = self.offered;
+        match partner(pairing, a) {
             None => true,
-            Some(p) => offered <= self.bands[a][p],
+            Some(p) => bands[a][b] <= bands[a][p],
         }
     }
 
     // a and b list each other and are not paired together.
     #[tactic(auto, unfolding(crate::specs::Blocking::is_apart))]
     fn is_apart(&self, a: usize, b: usize) -> bool
-        requires { (a < self.now.joints.count) × (b < self.now.joints.count) }
-        ensures { result ≡ is_apart self.now.bands.now self.now.pairing.now a b }
+        requires { (a < self.now.offered.joints.count) × (b < self.now.offered.joints.count) }
+        ensures { result ≡ is_apart self.now.offered.bands.now self.now.offered.pairing.now a b }
     {
-        0 < self.bands[a][b] && 0 < self.bands[b][a] && partner(self.pairing, a) != Some(b)
+        let Offered { bands, pairing, .. } = self.offered;
+        0 < bands[a][b] && 0 < bands[b][a] && partner(pairing, a) != Some(b)
     }
 
     #[tactic(auto, unfolding(crate::specs::Blocking::blocks))]
     fn blocks(&self, a: usize, b: usize) -> bool
-        requires { (a < self.now.joints.count) × (b < self.now.joints.count) }
-        ensures { result ≡ blocks self.now.bands.now self.now.pairing.now a b }
+        requires { (a < self.now.offered.joints.count) × (b < self.now.offered.joints.count) }
+        ensures { result ≡ blocks self.now.offered.bands.now self.now.offered.pairing.now a b }
     {
         self.is_apart(a, b) && self.welcomes(a, b) && self.welcomes(b, a)
     }
 
     // The lowest joint below b that blocks with b.
     fn blocker(&self, b: usize) -> Option<usize>
-        requires { b < self.now.joints.count }
-        ensures { result ≡ first_blocker self.now.bands.now self.now.pairing.now b }
+        requires { b < self.now.offered.joints.count }
+        ensures { result ≡ first_blocker self.now.offered.bands.now self.now.offered.pairing.now b }
     {
         (0..b).find(|a| self.blocks(*a, b))
     }
 
     // The number of the lowest pair that blocks and has b as its higher joint.
     fn pair_below(&self, b: usize) -> Option<u32>
-        requires { b < self.now.joints.count }
-        ensures { result ≡ pair_below self.now.bands.now self.now.pairing.now b }
+        requires { b < self.now.offered.joints.count }
+        ensures { result ≡ pair_below self.now.offered.bands.now self.now.offered.pairing.now b }
     {
         let a = self.blocker(b)?;
+        // by `as`, since the clause shows that it fits, and `try_from` would have an error that cannot be
         Some(pair_number(a, b) as u32)
     }
 
     // The number of the lowest pair that blocks.
     fn blocking_pair(&self) -> Option<u32>
-        ensures { result ≡ blocking_pair self.now.joints.count self.now.bands.now self.now.pairing.now }
+        ensures { result ≡ blocking_pair self.now.offered.joints.count self.now.offered.bands.now self.now.offered.pairing.now }
     {
-        (0..self.joints.count).find_map(|b| self.pair_below(b))
+        (0..self.offered.joints.count).find_map(|b| self.pair_below(b))
     }
 }
 
@@ -83,10 +82,6 @@ pub fn offer(offered: &Offered) -> Result<Option<u32>, Refusal>
     if !offered.is_matching() {
         return Err(Refusal::NoPairingOffered);
     }
-    let matched = Matched {
-        joints: offered.joints,
-        bands: offered.bands,
-        pairing: offered.pairing,
-    };
+    let matched = Matched { offered: *offered };
     Ok(matched.blocking_pair())
 }

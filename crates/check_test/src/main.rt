@@ -14,9 +14,6 @@ use tally::{Comparisons, add};
 
 const ROUNDS: u32 = 140;
 
-// How many vectors of n bytes there are, each byte one of 0 to 5 and 255.
-const VECTORS: [u32; 9] = [1, 7, 49, 343, 2401, 16807, 117649, 823543, 5764801];
-
 // Pairings offered to row g's sheet.
 const OFFERED: [(&str, &[u8]); 7] = [
     ("row j", &[1, 0, 255, 255]),
@@ -93,7 +90,7 @@ fn checked(sheet: &[u8], pairing: &[u8]) -> Answer {
     check(sheet, pairing).map_err(u8::from)
 }
 
-// An answer as it is printed.
+// An answer as one number, as the printed lines have it.
 fn number_of(said: Answer) -> u32 {
     match said {
         Ok(None) => 500,
@@ -102,7 +99,8 @@ fn number_of(said: Answer) -> u32 {
     }
 }
 
-// The digits of v to the base 7, lowest first, with 255 for 6; 255 past the first n.
+// The digits of v to the base 7, lowest first, with 255 for 6; 255 past the first n. In skeleton_test each digit has a base of its own, so the
+// loops stay apart.
 fn vector(v: u32, n: Joints) -> Pairing {
     let mut m = [NONE; 8];
     let mut rest = v;
@@ -116,10 +114,10 @@ fn vector(v: u32, n: Joints) -> Pairing {
     m
 }
 
-// Compares check with the reference on every vector for a sheet.
+// Compares check with the reference on every vector for a sheet, each byte one of 0 to 5 and 255.
 fn try_vectors(counts: &mut Counts, round: u32, sheet: &Sheet) {
     let n = sheet.n;
-    for v in 0..VECTORS[n.count] {
+    for v in 0..7u32.pow(n.count as u32) {
         let m = vector(v, n);
         let said = checked(&sheet.bytes, &m[..n.count]);
         counts.note(said);

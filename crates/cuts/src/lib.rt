@@ -2,7 +2,7 @@
 // above, which prove what they require.
 #![tactic(auto)]
 
-ghost use Rattle.std.specs.Prelude.{◌≡◌, ◌&&◌, ◌<◌, ltb};
+ghost use Rattle.std.specs.Prelude.{◌≡◌, ◌&&◌, ◌<◌, cond, ltb};
 ghost use Rattle.roommates.specs.PhaseTwo.{trial, aside_of, none_emptied, cut_at, longer};
 ghost use Rattle.cuts.specs.Kept.{is_kept, lists_after};
 
@@ -41,24 +41,31 @@ fn none_emptied(n: Joints, aside: &[u8; 128], bands: &[[u8; 128]; 128]) -> bool
     (0..n.count).all(|a| aside[a] == 1 || 1 <= list_length(n, &bands[a]))
 }
 
-// A cut at x: whether a trial is kept. Its lists are then left; where neither is, the lists stay. In place and no `Option` of lists,
-// which would lay 16 KB more on the stack.
+// A trial at v: whether it is kept, as one is that empties no list. Its lists are then left, else they stay. In place and no `Option`
+// of lists, which would lay 16 KB more on the stack.
+fn try_at(n: Joints, aside: &[u8; 128], lists: &mut [[u8; 128]; 128], v: usize) -> bool
+    requires { v < 128 }
+    ensures value { result ≡ none_emptied n.count aside.now (trial n.count lists.old v) }
+    ensures lists_after { lists.new ≡ cond (none_emptied n.count aside.now (trial n.count lists.old v)) (trial n.count lists.old v) lists.old }
+{
+    let after = trial(n, *lists, v);
+    let kept = none_emptied(n, aside, &after);
+    if kept {
+        *lists = after;
+    }
+    kept
+}
+
+// A cut at x: whether a trial is kept, one at the first on x's list or else one at x. Its lists are then left; where neither is, the
+// lists stay.
+#[tactic(auto, unfolding(roommates::specs::PhaseTwo::cut_at), using(lists::proofs::LawsFirst::first_inside))]
 pub fn cut(n: Joints, aside: &[u8; 128], lists: &mut [[u8; 128]; 128], x: usize) -> bool
     requires { x < n.count }
     ensures value { result ≡ is_kept (cut_at n.count aside.now lists.old x) }
     ensures lists_after { lists.new ≡ lists_after lists.old (cut_at n.count aside.now lists.old x) }
 {
-    let first = trial(n, *lists, first_on(n, &lists[x]));
-    if none_emptied(n, aside, &first) {
-        *lists = first;
-        return true;
-    }
-    let second = trial(n, *lists, x);
-    if none_emptied(n, aside, &second) {
-        *lists = second;
-        return true;
-    }
-    false
+    let first = first_on(n, &lists[x]);
+    try_at(n, aside, lists, first) || try_at(n, aside, lists, x)
 }
 
 // is x a joint with a list longer than one?

@@ -6,7 +6,7 @@ use arrayvec::ArrayVec;
 use bvh::import;
 use calls::End;
 use quote::quote;
-use skeleton::follow;
+use skeleton::{Strays, follow};
 use std::rt::Files;
 use std::{fs, io};
 
@@ -51,19 +51,15 @@ fn is_listed(sheet: &[u8], expected: &[u8]) -> bool {
 
 // Does follow answer that all pairs follow, or how many do not and the lowest of their numbers?
 fn is_followed_so(sheet: &[u8], pairing: &[u8], due: Option<(u32, u32)>) -> bool {
-    match follow(sheet, pairing) {
-        Err(_) => false,
-        Ok(strays) => strays.map(|strays| (strays.pairs, strays.lowest)) == due,
-    }
+    let due = due.map(|(pairs, lowest)| Strays { pairs, lowest });
+    follow(sheet, pairing) == Ok(due)
 }
 
 // Is the sheet what import writes for a hierarchy?
 fn is_imported(text: &[u8], expected: &[u8]) -> bool {
     let mut sheet = [0u8; 2180];
-    match import(text, &mut sheet) {
-        Ok(length) => sheet.get(..length) == Some(expected),
-        Err(_) => false,
-    }
+    let written = import(text, &mut sheet);
+    written.is_ok_and(|length| sheet.get(..length) == Some(expected))
 }
 
 const LISTED: [(&str, &str); 8] = [

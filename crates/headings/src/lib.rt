@@ -44,17 +44,14 @@ pub fn site(text: &[u8]) -> Option<&[u8]>
 }
 
 // What a word begins in a block, if it may stand there.
+#[tactic(auto, using(crate::proofs::HeadingLaws::children))]
 pub fn child_of(word: &[u8]) -> Option<Child>
     ensures { result ≡ child_of word.now }
 {
-    // no match: on byte strings it tests byte by byte, and its proof has a case for each byte
-    if word == b"}".as_slice() {
-        Some(Child::Close)
-    } else if word == b"End".as_slice() {
-        Some(Child::End)
-    } else if word == b"JOINT".as_slice() {
-        Some(Child::Joint)
-    } else {
-        None
+    match word {
+        b"}" => Some(Child::Close),
+        b"End" => Some(Child::End),
+        b"JOINT" => Some(Child::Joint),
+        _ => None,
     }
 }

@@ -30,10 +30,7 @@ pub struct Hierarchy<'a> {
 fn ends(text: &[u8]) -> bool
     ensures { result ≡ ends (words text.now) }
 {
-    match next_word(text) {
-        Some(word) => word.bytes == b"MOTION".as_slice(),
-        None => true,
-    }
+    next_word(text).is_none_or(|word| word.bytes == b"MOTION".as_slice())
 }
 
 // Reads a ROOT block.

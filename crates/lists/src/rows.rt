@@ -1,4 +1,5 @@
-// What one preference list says: a row of bands, 0 for a joint that is not on the list.
+// What one preference list says: a row of bands, 0 for a joint that is not on the list. The count of joints goes beside the row, which is no slice
+// of so many: the definitions have both, and each call would cut one.
 ghost use Rattle.std.specs.Prelude.{◌≡◌, ℕ, Bool, get_or};
 ghost use Rattle.base.specs.Below.{count_below};
 ghost use Rattle.roommates.specs.Lists.{list_length, best_band, worst_band, band_size, first_on};
@@ -27,7 +28,7 @@ pub fn list_length(n: Joints, row: &[u8; 128]) -> usize
     count(n, row, |b| 0 < b)
 }
 
-// 0 for an empty list, as the square has no band
+// The best and the worst band: 0 for an empty list, as the square and the definitions have it. Every caller would turn an Option back into it.
 pub fn best_band(n: Joints, row: &[u8; 128]) -> u8
     ensures { result ≡ best_band n.count row.now }
 {
@@ -60,16 +61,15 @@ pub fn first_on(n: Joints, row: &[u8; 128]) -> usize
     (0..n.count).find(|b| row[*b] == best).unwrap_or(n.count)
 }
 
-// Does a joint with this list, which last proposed to band k, wait? One walk and no early end, for speed: this is the phases' busiest
-// loop.
+// Does a joint with this list, which last proposed to band k, wait? One walk that finds both and has no early end, for speed: by the two
+// counts, `list_length` and `band_size`, settle took a fifteenth to a seventh longer.
 pub fn list_waits(n: Joints, k: u8, row: &[u8; 128]) -> bool
     ensures { result ≡ list_waits n.count k row.now }
 {
-    let mut listed = false;
-    let mut reached = false;
-    for b in &row[..n.count] {
-        listed |= 0 < *b;
-        reached |= *b == k;
-    }
+    let (listed, reached) = row[..n.count]
+        .iter()
+        .fold((false, false), |(listed, reached), b| {
+            (listed | (0 < *b), reached | (*b == k))
+        });
     listed && (k == 0 || !reached)
 }

@@ -10,7 +10,8 @@ use stages::Working;
 pub fn save(m: usize, working: &Working, marks: &mut [Option<Working>; 8]) -> Result<(), Refusal>
     ensures { Saves m working.now marks.old marks.new result }
 {
-    if 8 <= m {
+    // No `get_mut`: tried, and no proof closes, since of a slice written through it only the length is known, and no element.
+    if marks.len() <= m {
         return Err(Refusal::NoSuchMark);
     }
     marks[m] = Some(*working);

@@ -9,7 +9,8 @@ use sections::{Joints, NO_JOINT};
 // a joint's partner, if it is paired
 pub use sections::joint_in as partner;
 
-// Partner bytes that are offered over a sheet's joints and its square of bands.
+// Partner bytes that are offered over a sheet's joints and its square of bands. No `Rankings` of crate sheet: a `Rankings` holds its square,
+// and check's and follow's is lent, since they should take little stack.
 #[derive(Clone, Copy)]
 pub struct Offered<'a> {
     pub joints: Joints,
@@ -32,6 +33,7 @@ impl Offered<'_> {
         requires { (length self.now.pairing.now ≡ self.now.joints.count) × (a < self.now.joints.count) }
         ensures { result ≡ is_placed self.now.joints.count self.now.bands.now self.now.pairing.now a }
     {
+        // No `is_none_or`: tried, and no proof closes, since of a closure that has `self` its clauses say nothing where there is a partner.
         match partner(self.pairing, a) {
             None => true,
             Some(p) => self.is_paired(a, p),

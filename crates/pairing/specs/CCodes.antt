@@ -22,16 +22,18 @@ settled_code (Err refusal) = packed (number_of refusal) 0 0
 settled_code (Ok (E.None phase)) = packed 0 (phase_number phase) 0
 settled_code (Ok (E.Paired count)) = packed 0 3 count
 
+-- a number beside its verdict; verdict 1 where there is none
+abbrev pub found_code : ℕ → Result (Option ℕ) Refusal → ℕ
+found_code verdict (Err refusal) = packed (number_of refusal) 0 0
+found_code verdict (Ok None) = packed 0 1 0
+found_code verdict (Ok (Some count)) = packed 0 verdict count
+
 abbrev pub shortened_code : Result (Option ℕ) Refusal → ℕ
-shortened_code (Err refusal) = packed (number_of refusal) 0 0
-shortened_code (Ok None) = packed 0 1 0
-shortened_code (Ok (Some count)) = packed 0 3 count
+shortened_code answer = found_code 3 answer
 
 -- 1 in the verdict's place if the pairing holds, else the blocking pair's number in the count's
 abbrev pub checked_code : Result (Option ℕ) Refusal → ℕ
-checked_code (Err refusal) = packed (number_of refusal) 0 0
-checked_code (Ok None) = packed 0 1 0
-checked_code (Ok (Some pair)) = packed 0 0 pair
+checked_code answer = found_code 0 answer
 
 abbrev pub counts_code : Counts → ℕ
 counts_code c = fault_of c.refusal + 65536 * c.proposals + 2 ^ 32 * c.cuts

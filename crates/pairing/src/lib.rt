@@ -10,9 +10,9 @@ pub mod settling;
 pub mod shortening;
 pub mod version;
 
-ghost use Rattle.std.specs.Prelude.{◌≡◌, ◌<◌};
+ghost use Rattle.std.specs.Prelude.{◌≡◌, ℕ, ◌<◌, Some, Ok};
 ghost use Rattle.refusals.specs.Numbers.{number_of};
-ghost use Rattle.pairing.specs.CCodes.{packed};
+ghost use Rattle.pairing.specs.CCodes.{packed, found_code};
 
 use refusals::Refusal;
 
@@ -37,4 +37,16 @@ fn packed(number: u32, verdict: u32, count: u32) -> u32
     ensures { result ≡ packed number verdict count }
 {
     number + VERDICT * verdict + COUNT * count
+}
+
+// A number beside its verdict, or verdict 1 where there is none: the answers of check and shorten.
+fn found_code(answer: Result<Option<u32>, Refusal>, verdict: u32) -> u32
+    requires { (verdict < 256) × ((k : ℕ) → answer ≡ Ok (Some k) → k < 65536) }
+    ensures { result ≡ found_code verdict answer }
+{
+    match answer {
+        Err(refusal) => packed(number(refusal), 0, 0),
+        Ok(None) => packed(0, 1, 0),
+        Ok(Some(count)) => packed(0, verdict, count),
+    }
 }

@@ -13,8 +13,9 @@ use ruling::lowest_waiting;
 use sections::Joints;
 
 // What phase one keeps beside the lists: for each joint the band that it last proposed to (0 before its first step) and whether
-// it ever received a proposal (1 or 0), and how many proposals were made. Bytes, since bools would be no plainer: the definitions
-// have lists of 1 and 0, into which each contract would have to turn them.
+// it ever received a proposal (1 or 0), and how many proposals were made. Two arrays of bytes, since bools, an Option of a band and
+// one array of structs would be no plainer: the definitions have two lists of numbers, one for each, with 0 for no band and for no,
+// into which every contract would have to turn them. And a step lends the first to be read and the second to be written.
 #[derive(Clone, Copy)]
 pub struct Progress {
     pub reach: [u8; 128],

@@ -50,7 +50,7 @@ impl Default for Counts {
     }
 }
 
-// An answer as one number: that of a refusal, 101 or 102 for none with its phase, 1000 and the sum.
+// An answer as one number: that of a refusal, 101 or 102 for none with its phase, 1000 and the sum. The printed sums are of these numbers.
 fn number_of(answer: Answer) -> u64 {
     match answer {
         Err(number) => u64::from(number),

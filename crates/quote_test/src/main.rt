@@ -15,7 +15,7 @@ use calls::{End, Phase};
 use counts::Counts;
 use pairs::sheet_of_pairs;
 use quote::quote;
-use rules::{Call, Said, Work};
+use rules::{Call, Work};
 use samples::{next, put, varied_sheet};
 use std::io;
 use tariffs::{Form, Tariff, drawn_tariff, is_in_form};
@@ -45,20 +45,20 @@ fn phase_of(phase: rules::Phase) -> Phase {
 
 // What is due of an accepted sheet whose working ends so, or has a refused record: 16, 17, then that. None of one that ends in lists, or
 // not at all, as settle's never does: no answer agrees with it.
-fn due(tariff: &Tariff, rebate: u32, working: Result<Said, u8>) -> Option<Answer> {
+fn due(tariff: &Tariff, rebate: u32, working: Option<Result<rules::End, u8>>) -> Option<Answer> {
     if !is_in_form(tariff) {
         return Some(Err(16));
     }
     if 10000 < rebate {
         return Some(Err(17));
     }
-    match working {
-        Ok(Said::Paired(pairs)) => {
+    match working? {
+        Ok(rules::End::Paired(pairs)) => {
             let sum = prices::payable(tariff, pairs % 65, rebate);
             Some(Ok(End::Paired(sum)))
         }
-        Ok(Said::None(phase)) => Some(Ok(End::None(phase_of(phase)))),
-        Ok(Said::Lists(_) | Said::Unended) => None,
+        Ok(rules::End::None(phase)) => Some(Ok(End::None(phase_of(phase)))),
+        Ok(rules::End::Lists(_)) => None,
         Err(number) => Some(Err(number)),
     }
 }
@@ -79,7 +79,7 @@ fn try_number(counts: &mut Counts, round: u32)
     let tariff = drawn_tariff(x, form);
     let said = quoted(&sheet, b"", &tariff, rebate);
     counts.pairs.note(said);
-    let expected = due(&tariff, rebate, Ok(Said::Paired(round / 8)));
+    let expected = due(&tariff, rebate, Some(Ok(rules::End::Paired(round / 8))));
     counts.comparisons.compare(
         "the quote of a number of pairs",
         round,

@@ -1,13 +1,13 @@
 // Choices for a sheet: a mark and some steps within the rules; after them nothing, a return, or what is refused.
 use replay::{Choices, Record, longer};
-use rules::{Said, Work, any_of};
+use rules::{End, Work, any_of};
 use samples::next;
 
-// Choices, and what becomes of the working: an end, or the number of a refusal.
+// Choices, and what becomes of the working: an end, or the number of a refusal; nothing where it has not ended.
 #[derive(Drop)]
 pub struct Walk {
     pub list: Choices,
-    pub end: Result<Said, u8>,
+    pub end: Option<Result<End, u8>>,
 }
 
 // Steps, the working after them, and where the generator stands.
@@ -39,12 +39,12 @@ fn steps(start: &Work, seed: u32, most: u32) -> Path {
 }
 
 // What becomes of a working without choices.
-fn end_of(start: &Work) -> Result<Said, u8> {
+fn end_of(start: &Work) -> Option<Result<End, u8>> {
     start.ended().answered().said
 }
 
 // What becomes of one that a step is made in, which may be refused.
-fn end_after(start: &Work, mut work: Work, joint: u8) -> Result<Said, u8> {
+fn end_after(start: &Work, mut work: Work, joint: u8) -> Option<Result<End, u8>> {
     work.choose(joint);
     if work.is_refused() {
         return work.answered().said;
@@ -52,7 +52,7 @@ fn end_after(start: &Work, mut work: Work, joint: u8) -> Result<Said, u8> {
     end_of(start)
 }
 
-fn ending(list: &Choices, bytes: &[u8], end: Result<Said, u8>) -> Walk {
+fn ending(list: &Choices, bytes: &[u8], end: Option<Result<End, u8>>) -> Walk {
     Walk {
         list: longer(list, bytes),
         end,
@@ -68,12 +68,12 @@ pub fn drawn_walk(start: &Work, seed: u32) -> Walk {
     // By `as`, since a number below 10 fits; try_from would have an error that cannot be.
     let joint = (seed % 65537 / 192 % 10) as u8;
     match seed % 16 {
-        0 => ending(list, &[0], Err(14)),
-        1 => ending(list, &[0, 200, 0], Err(14)),
-        2 => ending(list, &[3, 0], Err(14)),
-        3 => ending(list, &<[u8; 2]>::from(Record::Return(5)), Err(15)),
-        4 => ending(list, &<[u8; 2]>::from(Record::Return(8)), Err(15)),
-        5 => ending(list, &<[u8; 2]>::from(Record::Mark(8)), Err(15)),
+        0 => ending(list, &[0], Some(Err(14))),
+        1 => ending(list, &[0, 200, 0], Some(Err(14))),
+        2 => ending(list, &[3, 0], Some(Err(14))),
+        3 => ending(list, &<[u8; 2]>::from(Record::Return(5)), Some(Err(15))),
+        4 => ending(list, &<[u8; 2]>::from(Record::Return(8)), Some(Err(15))),
+        5 => ending(list, &<[u8; 2]>::from(Record::Mark(8)), Some(Err(15))),
         6 => ending(
             list,
             &<[u8; 2]>::from(Record::Step(200)),

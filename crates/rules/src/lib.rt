@@ -25,11 +25,12 @@ pub enum Phase {
     Two,
 }
 
+// The end of a working: none, with its phase; a pairing, with its count of pairs; lists, with their count of entries.
 #[derive(Clone, Copy, PartialEq, Eq)]
 pub enum End {
     None(Phase),
-    Paired,
-    Lists,
+    Paired(u32),
+    Lists(u32),
 }
 
 // Where a working stands: in a phase, at its end, or at a refused choice.
@@ -57,16 +58,6 @@ pub struct Work {
     pub cuts: u32,
 }
 
-// What a call answers that is not refused: none with its phase, the count of pairs, the count of entries. A working that has not ended is none
-// that a call answers for.
-#[derive(Clone, Copy, PartialEq, Eq)]
-pub enum Said {
-    None(Phase),
-    Paired(u32),
-    Lists(u32),
-    Unended,
-}
-
 // A working's counts, beside the number of a refused choice.
 #[derive(Clone, Copy, PartialEq, Eq)]
 pub struct Counts {
@@ -75,10 +66,11 @@ pub struct Counts {
     pub cuts: u32,
 }
 
-// What a call answers, or the number of a refusal; the buffer after it; and its working's counts.
+// What a call answers, an end or the number of a refusal, and nothing for a working that has not ended; the buffer after it; and its working's
+// counts.
 #[derive(Clone, Copy)]
 pub struct Answer {
-    pub said: Result<Said, u8>,
+    pub said: Option<Result<End, u8>>,
     pub out: [u8; 256],
     pub counts: Counts,
 }
@@ -139,10 +131,10 @@ impl Work {
                 } else if self.call == Call::Settle {
                     Stage::In(Phase::Two)
                 } else {
-                    Stage::Ended(End::Lists)
+                    Stage::Ended(End::Lists(self.count()))
                 };
             }
-            Stage::In(Phase::Two) => self.stage = Stage::Ended(End::Paired),
+            Stage::In(Phase::Two) => self.stage = Stage::Ended(End::Paired(self.count() / 2)),
             _ => {}
         }
     }
@@ -212,11 +204,9 @@ impl Work {
         filled(&self.partners()[..self.n.count])
     }
 
-    // How many entries remain.
+    // How many entries remain: the bits of all lists.
     fn count(&self) -> u32 {
-        self.listed
-            .iter()
-            .fold(0, |sum, list| sum % 65 + list.count_ones())
+        u64::from_le_bytes(self.listed).count_ones()
     }
 
     // Shorten writes the remaining entries in sheet form, count first, bands as in the sheet.
@@ -235,18 +225,21 @@ impl Work {
 
     // None and refusals write nothing.
     pub fn answered(&self) -> Answer {
-        let (said, out, refused) = match self.stage {
-            Stage::Ended(End::Paired) => (Ok(Said::Paired(self.count() / 2)), self.settled(), None),
-            Stage::Ended(End::Lists) => (Ok(Said::Lists(self.count())), self.shortened(), None),
-            Stage::Ended(End::None(phase)) => (Ok(Said::None(phase)), filled(&[]), None),
-            Stage::In(_) => (Ok(Said::Unended), filled(&[]), None),
-            Stage::Refused(number) => (Err(number), filled(&[]), Some(number)),
+        let said = match self.stage {
+            Stage::In(_) => None,
+            Stage::Ended(end) => Some(Ok(end)),
+            Stage::Refused(number) => Some(Err(number)),
+        };
+        let out = match said {
+            Some(Ok(End::Paired(_))) => self.settled(),
+            Some(Ok(End::Lists(_))) => self.shortened(),
+            _ => filled(&[]),
         };
         Answer {
             said,
             out,
             counts: Counts {
-                refused,
+                refused: said.and_then(Result::err),
                 proposals: self.proposals,
                 cuts: self.cuts,
             },

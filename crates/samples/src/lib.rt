@@ -25,6 +25,13 @@ pub struct Style {
     pub turn: u8,
 }
 
+// A joint of a pair, by which of the two has the lower number.
+#[derive(Clone, Copy, PartialEq, Eq)]
+enum Side {
+    Lower,
+    Higher,
+}
+
 impl Style {
     fn band(self, x: u32, step: u8) -> u8
         requires { step < 8 }
@@ -33,13 +40,16 @@ impl Style {
         spread + self.turn.min(8) * step + 1
     }
 
-    // A band, or 0 on the side of a pair, 0 or 1, that does not list the other.
-    fn kept(self, band: u8, x: u32, side: u32) -> u8 {
-        if x / 512 % 8 < self.lone && x / 4096 % 2 == side {
-            0
-        } else {
-            band
+    // The side of a pair that does not list the other, if one does not.
+    fn silent(self, x: u32) -> Option<Side> {
+        if self.lone <= x / 512 % 8 {
+            return None;
         }
+        Some(if x / 4096 % 2 == 0 {
+            Side::Lower
+        } else {
+            Side::Higher
+        })
     }
 }
 
@@ -71,8 +81,13 @@ fn list_pair(bands: &mut Bands, x: u32, style: Style, n: Joints, a: usize, b: us
     }
     let z = next(y);
     let step = b - a;
-    bands[a][b] = style.kept(style.band(y, step as u8), z, 0);
-    bands[b][a] = style.kept(style.band(z, (n.count - step) as u8), z, 1);
+    let silent = style.silent(z);
+    if silent != Some(Side::Lower) {
+        bands[a][b] = style.band(y, step as u8);
+    }
+    if silent != Some(Side::Higher) {
+        bands[b][a] = style.band(z, (n.count - step) as u8);
+    }
     z
 }
 

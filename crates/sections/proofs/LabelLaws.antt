@@ -1,13 +1,18 @@
 -- Laws of the labels' definitions, for the chains that compute them.
 use mathlib.Core.Path.{◌≡◌, refl, sym, ap, ◌∙◌}
-use mathlib.Core.Bool.{Bool, true, false, ◌&&◌}
+use mathlib.Core.Bool.{Bool, true, false, ◌&&◌, ◌||◌}
 use mathlib.Core.List.{List, [], ◌∷◌}
 use mathlib.Core.Logic.{◌≢◌}
 use Prim.Native.Nat.{ℕ, zero, suc, ◌≤◌, ◌<◌}
+use native.Mathlib.Numerals.{add-one}
 use native.Mathlib.Omega.{arith}
 use lib.Dec.{eqb}
-use lib.ListN.{length, get_or}
+use lib.ListN.{length, get_or, take}
+use lib.Pointwise.{pointwise, bytes_decides}
 use borrow.Author.Tests.{eq-eqb, eqb-true}
+use Rattle.std.specs.List.{list_any}
+use Rattle.std.proofs.lemmas.List.Folds.{list_any_more}
+use Rattle.base.specs.Below.{any_below}
 use Rattle.base.proofs.Cases.{case, both_ways}
 use Rattle.base.proofs.Tests.{not_so, and_true}
 use Rattle.sections.specs.Labels.{visible, visible_run, all_zero, same_bytes}
@@ -67,3 +72,18 @@ same_is r a b h = go r (same_bytes a b) (λ e. same_true a b (h.0 e)) (λ e. h.1
     go true y f g = sym (f refl)
     go false true f g = g refl
     go false false f g = refl
+
+-- the library's search of the labels before one, and its comparison
+abbrev pub is_again : List (List ℕ) → ℕ → List ℕ → Bool
+is_again labels i l = pointwise eqb l (get_or labels i [])
+
+pub any_in_front : (test : List ℕ → Bool) (labels : List (List ℕ)) (i : ℕ) → i ≤ length labels
+    → list_any test (take i labels) ≡ any_below i (λ j. test (get_or labels j []))
+unfolding any_below
+any_in_front test labels zero h = refl
+any_in_front test labels (suc i) h =
+    let more = rw (add-one i) at (list_any_more test labels i [] (omega arith)) in
+    more ∙ ap (λ (b : Bool). b || test (get_or labels i [])) (any_in_front test labels i (omega arith))
+
+pub same_either_way : (a b : List ℕ) → pointwise eqb a b ≡ same_bytes b a
+same_either_way a b = same_is (pointwise eqb a b) b a (λ t. sym ((bytes_decides a b).0 t), λ e. (bytes_decides a b).1 (sym e))

@@ -4,7 +4,7 @@ ghost use Rattle.std.specs.List.{concat};
 ghost use Rattle.refusals.specs.Numbers.{answered};
 ghost use Rattle.sections.specs.Entries.{outside, no_band, after, misplaced, entry_fault, entries_fault};
 
-use crate::Entry;
+use crate::{ENTRY_WIDTH, Entry};
 use refusals::Refusal;
 
 fn is_outside(n: usize, e: Entry) -> bool
@@ -22,18 +22,18 @@ fn has_no_band(e: Entry) -> bool
 fn is_after(e: Entry, d: Entry) -> bool
     ensures { result ≡ after e d }
 {
-    d.joint < e.joint || d.joint == e.joint && d.other < e.other
+    (d.joint, d.other) < (e.joint, e.other)
 }
 
 #[tactic(auto, using(crate::proofs::Chunks::entry_in_row, crate::proofs::EntryFaults::misplaced_later))]
-fn is_misplaced(entries: &[[u8; 3]], j: usize) -> bool
+fn is_misplaced(entries: &[[u8; ENTRY_WIDTH]], j: usize) -> bool
     requires { j < length entries.now }
     ensures { result ≡ misplaced (concat entries.now) j }
 {
     j != 0 && !is_after(Entry::from(entries[j]), Entry::from(entries[j - 1]))
 }
 
-fn judge_entry(entries: &[[u8; 3]], n: usize, j: usize) -> Result<(), Refusal>
+fn judge_entry(entries: &[[u8; ENTRY_WIDTH]], n: usize, j: usize) -> Result<(), Refusal>
     requires { j < length entries.now }
     ensures { result ≡ answered (entry_fault n (concat entries.now) j) tt }
 {
@@ -51,7 +51,7 @@ fn judge_entry(entries: &[[u8; 3]], n: usize, j: usize) -> Result<(), Refusal>
 }
 
 // Reads the entries of a sheet with n joints.
-pub fn read_entries(entries: &[[u8; 3]], n: usize) -> Result<(), Refusal>
+pub fn read_entries(entries: &[[u8; ENTRY_WIDTH]], n: usize) -> Result<(), Refusal>
     ensures { result ≡ answered (entries_fault (length entries.now) n (concat entries.now)) tt }
 {
     for j in 0..entries.len() {

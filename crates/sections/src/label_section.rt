@@ -14,7 +14,7 @@ fn is_visible(b: u8) -> bool
     b.is_ascii_graphic()
 }
 
-// How many visible bytes a label begins with.
+// How many visible bytes a label begins with. A chain of the library's already, as `gaps` of crate words: the two share nothing but `position`.
 pub fn visible_run(label: &[u8]) -> usize
     ensures value { result ≡ visible_run label.now }
     ensures upper_bound { result ≤ length label.now }
@@ -38,29 +38,22 @@ fn label_ok(label: &[u8]) -> bool
     1 <= run && is_zero(&label[run..])
 }
 
-fn repeats_label(labels: &[[u8; 16]], i: usize, j: usize) -> bool
-    requires { (i < length labels.now) × (j < i) }
-    ensures { result ≡ repeats (concat labels.now) i j }
-{
-    labels[i] == labels[j]
-}
-
-// Does label i repeat an earlier one?
-fn repeats_any(labels: &[[u8; 16]], i: usize) -> bool
+// Is label i an earlier one again?
+fn repeats_any(labels: &[[u8; LABEL_WIDTH]], i: usize) -> bool
     requires { i < length labels.now }
     ensures { result ≡ any_below i (repeats (concat labels.now) i) }
 {
-    (0..i).any(|j| repeats_label(labels, i, j))
+    labels[..i].contains(&labels[i])
 }
 
-fn label_bad(labels: &[[u8; 16]], i: usize) -> bool
+fn label_bad(labels: &[[u8; LABEL_WIDTH]], i: usize) -> bool
     requires { i < length labels.now }
     ensures { result ≡ label_bad (concat labels.now) i }
 {
     !label_ok(&labels[i]) || repeats_any(labels, i)
 }
 
-fn some_label_bad(labels: &[[u8; 16]]) -> bool
+fn some_label_bad(labels: &[[u8; LABEL_WIDTH]]) -> bool
     ensures { result ≡ any_below (length labels.now) (label_bad (concat labels.now)) }
 {
     (0..labels.len()).any(|i| label_bad(labels, i))

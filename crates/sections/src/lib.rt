@@ -25,10 +25,10 @@ pub struct Entry {
     pub band: u8,
 }
 
-impl From<[u8; 3]> for Entry {
+impl From<[u8; ENTRY_WIDTH]> for Entry {
     ghost from_gives = { λ bytes e. e ≡ entry_in bytes 0 };
 
-    fn from(bytes: [u8; 3]) -> Entry {
+    fn from(bytes: [u8; ENTRY_WIDTH]) -> Entry {
         let [joint, other, band] = bytes;
         Entry {
             joint: usize::from(joint),

@@ -1,10 +1,9 @@
 // What the library answers, in the form of the rules.
-use calls::End;
 use calls::counting::count_working;
 use calls::settling::settle;
 use calls::shortening::shorten;
 use replay::Choices;
-use rules::{Answer, Call, Counts, Phase, Said};
+use rules::{Answer, Call, Counts, End, Phase};
 use samples::{FILL, Sheet};
 
 // The library's phase as the rules'. No From, since both are types of other crates, which stand apart; quote_test needs the other way only.
@@ -15,17 +14,17 @@ fn phase_of(phase: calls::Phase) -> Phase {
     }
 }
 
-fn settled(sheet: &[u8], choices: &[u8], out: &mut [u8]) -> Result<Said, u8> {
+fn settled(sheet: &[u8], choices: &[u8], out: &mut [u8]) -> Result<End, u8> {
     match settle(sheet, choices, out).map_err(u8::from)? {
-        End::None(phase) => Ok(Said::None(phase_of(phase))),
-        End::Paired(count) => Ok(Said::Paired(count)),
+        calls::End::None(phase) => Ok(End::None(phase_of(phase))),
+        calls::End::Paired(count) => Ok(End::Paired(count)),
     }
 }
 
-fn shortened(sheet: &[u8], choices: &[u8], out: &mut [u8]) -> Result<Said, u8> {
+fn shortened(sheet: &[u8], choices: &[u8], out: &mut [u8]) -> Result<End, u8> {
     match shorten(sheet, choices, out).map_err(u8::from)? {
-        None => Ok(Said::None(Phase::One)),
-        Some(count) => Ok(Said::Lists(count)),
+        None => Ok(End::None(Phase::One)),
+        Some(count) => Ok(End::Lists(count)),
     }
 }
 
@@ -38,7 +37,7 @@ fn counted(call: Call, sheet: &[u8], choices: &[u8]) -> Counts {
     }
 }
 
-pub fn answered(call: Call, sheet: &[u8], choices: &[u8], out: &mut [u8]) -> Result<Said, u8> {
+pub fn answered(call: Call, sheet: &[u8], choices: &[u8], out: &mut [u8]) -> Result<End, u8> {
     match call {
         Call::Settle => settled(sheet, choices, out),
         Call::Shorten => shortened(sheet, choices, out),
@@ -50,7 +49,7 @@ pub fn ask(call: Call, sheet: &Sheet, choices: &Choices, room: usize) -> Answer 
     let mut out = [FILL; 256];
     let said = answered(call, &sheet.bytes, choices, &mut out[..room.min(256)]);
     Answer {
-        said,
+        said: Some(said),
         out,
         counts: counted(call, &sheet.bytes, choices),
     }

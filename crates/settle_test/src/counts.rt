@@ -1,6 +1,6 @@
 // What the program counts, and prints at its end.
 use replay::Record;
-use rules::{Call, End, Phase, Said, Stage, Work};
+use rules::{Call, End, Phase, Stage, Work};
 use std::fmt;
 use tally::{Comparisons, Refusals, add};
 
@@ -21,10 +21,11 @@ impl Default for Answers {
 }
 
 impl Answers {
-    fn note(&mut self, said: Result<Said, u8>) {
+    fn note(&mut self, said: Option<Result<End, u8>>) {
         match said {
-            Ok(_) => add(&mut self.within, 1),
-            Err(number) => self.refused.note(number),
+            Some(Ok(_)) => add(&mut self.within, 1),
+            Some(Err(number)) => self.refused.note(number),
+            None => {}
         }
     }
 }
@@ -64,7 +65,7 @@ impl Counts {
     // What is counted of settle's working with no choices.
     pub fn note_end(&mut self, end: &Work) {
         match end.stage {
-            Stage::Ended(End::Paired) => add(&mut self.paired, 1),
+            Stage::Ended(End::Paired(_)) => add(&mut self.paired, 1),
             Stage::Ended(End::None(Phase::One)) => add(&mut self.none_one, 1),
             _ => add(&mut self.none_two, 1),
         }
@@ -87,7 +88,7 @@ impl Counts {
         }
     }
 
-    pub fn note_answer(&mut self, call: Call, said: Result<Said, u8>) {
+    pub fn note_answer(&mut self, call: Call, said: Option<Result<End, u8>>) {
         match call {
             Call::Settle => self.settle.note(said),
             Call::Shorten => self.shorten.note(said),

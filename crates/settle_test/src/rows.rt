@@ -5,11 +5,11 @@ ghost use Rattle.std.specs.Prelude.{◌≤◌};
 use crate::answers::{answered, ask};
 use crate::counts::Counts;
 use replay::Choices;
-use rules::{Call, Said};
+use rules::{Call, End};
 use samples::{FILL, Joints, filled, no_entries, sheet_of};
 
 // Settle on n joints with no entries: what it answers, and its buffer.
-fn row_n(counts: &mut Counts, n: usize, due: Result<Said, u8>, left: [u8; 256])
+fn row_n(counts: &mut Counts, n: usize, due: Result<End, u8>, left: [u8; 256])
     requires { n ≤ 129 }
 {
     let mut out = [FILL; 256];
@@ -20,7 +20,7 @@ fn row_n(counts: &mut Counts, n: usize, due: Result<Said, u8>, left: [u8; 256])
 }
 
 // Settle on two joints that list each other in this band.
-fn row_o(counts: &mut Counts, band: u8, due: Result<Said, u8>, left: [u8; 256]) {
+fn row_o(counts: &mut Counts, band: u8, due: Result<End, u8>, left: [u8; 256]) {
     let mut bands = [[0; 8]; 8];
     bands[0][1] = band;
     bands[1][0] = band;
@@ -31,13 +31,17 @@ fn row_o(counts: &mut Counts, band: u8, due: Result<Said, u8>, left: [u8; 256]) 
         256,
     );
     let comparisons = &mut counts.comparisons;
-    comparisons.compare("the answer of row o", u32::from(band), said.said == due);
+    comparisons.compare(
+        "the answer of row o",
+        u32::from(band),
+        said.said == Some(due),
+    );
     comparisons.compare("the buffer of row o", u32::from(band), said.out == left);
 }
 
 pub fn try_rows(counts: &mut Counts) {
-    row_n(counts, 128, Ok(Said::Paired(0)), filled(&[255; 128]));
+    row_n(counts, 128, Ok(End::Paired(0)), filled(&[255; 128]));
     row_n(counts, 129, Err(2), filled(&[]));
-    row_o(counts, 127, Ok(Said::Paired(1)), filled(&[1, 0]));
+    row_o(counts, 127, Ok(End::Paired(1)), filled(&[1, 0]));
     row_o(counts, 128, Err(5), filled(&[]));
 }

@@ -84,7 +84,7 @@ impl Case {
     fn compare_end(&self, counts: &mut Counts, end: &Work) {
         let agrees = match end.stage {
             Stage::Refused(_) => return,
-            Stage::Ended(End::Paired) => is_stable(&self.sheet.bands, &end.partners()),
+            Stage::Ended(End::Paired(_)) => is_stable(&self.sheet.bands, &end.partners()),
             _ => self.stable == 0,
         };
         self.compare(counts, "the verdict of the rules", agrees);

@@ -3,7 +3,7 @@ use crate::build::number_of;
 use arrayvec::ArrayString;
 use sheet::Parts;
 use skeleton::follow;
-use std::fmt::Write;
+use std::fmt::{self, Write};
 
 type Bands = [[u8; 128]; 128];
 
@@ -91,12 +91,28 @@ fn check_holds(sheet: &[u8], bands: &Bands, claim: &str) -> bool {
     }
 }
 
-// Does the sheet read as its line says? Else the number of its refusal, or None where it is accepted.
-pub fn read_as(sheet: &[u8], expected: &str, checks: &str) -> Result<(), Option<u8>> {
+// What a sheet that does not read as its line says was read as.
+#[derive(Clone, Copy)]
+pub enum Differs {
+    Accepted,
+    Refused(u8),
+}
+
+impl fmt::Display for Differs {
+    fn fmt<W: fmt::Write>(&self, f: &mut fmt::Formatter<W>) -> fmt::Result {
+        match self {
+            Differs::Accepted => write!(f, "accepted"),
+            Differs::Refused(number) => write!(f, "refused with {number}"),
+        }
+    }
+}
+
+// Does the sheet read as its line says?
+pub fn read_as(sheet: &[u8], expected: &str, checks: &str) -> Result<(), Differs> {
     let mut bands = [[MARK; 128]; 128];
     match read(sheet, &mut bands) {
         Err(number) if is_refused_so(sheet, number, &bands, expected) => Ok(()),
-        Err(number) => Err(Some(number)),
+        Err(number) => Err(Differs::Refused(number)),
         Ok(parts) => {
             let is_so = is_accepted_so(parts, &bands, expected)
                 && is_followed_so(sheet, parts)
@@ -104,7 +120,11 @@ pub fn read_as(sheet: &[u8], expected: &str, checks: &str) -> Result<(), Option<
                     || checks
                         .split(',')
                         .all(|claim| check_holds(sheet, &bands, claim)));
-            if is_so { Ok(()) } else { Err(None) }
+            if is_so {
+                Ok(())
+            } else {
+                Err(Differs::Accepted)
+            }
         }
     }
 }

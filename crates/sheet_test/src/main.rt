@@ -22,12 +22,8 @@ fn agrees(rt: &impl Print, line: &str) -> std::io::Result<bool> {
     put_words(&mut sheet, words);
     match read_as(&sheet, expected, checks) {
         Ok(()) => Ok(true),
-        Err(Some(number)) => {
-            println!(rt; "{line}\ndiffers: refused with {number}")?;
-            Ok(false)
-        }
-        Err(None) => {
-            println!(rt; "{line}\ndiffers: accepted")?;
+        Err(differs) => {
+            println!(rt; "{line}\ndiffers: {differs}")?;
             Ok(false)
         }
     }

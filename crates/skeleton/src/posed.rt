@@ -39,6 +39,7 @@ impl Posed<'_> {
         requires { b < length self.now.pairing.now }
         ensures { result ≡ is_stray self.now.parents.now self.now.pairing.now b }
     {
+        // No `is_some_and`: tried, and no proof closes, since of a closure that has `self` its clauses say nothing where there is a partner.
         match partner(self.pairing, b) {
             Some(a) => a < b && !self.follows(a, b),
             None => false,

@@ -97,11 +97,8 @@ impl Damage {
 
 fn drawn_third(n: Joints, damage: Damage, x: u32) -> Third {
     let count = damage.count(n, x as usize);
-    Third {
-        parents: damage.parents(nth_parents(x, n), n, next(x) as usize),
-        count: count as u8,
-        size: damage.size(n, count),
-    }
+    let parents = damage.parents(nth_parents(x, n), n, next(x) as usize);
+    Third::new(count as u8, parents, damage.size(n, count))
 }
 
 // A matching of the pairs that are listed both ways. The empty one always is.
@@ -187,7 +184,7 @@ fn try_sheet(counts: &mut Counts, rows: &Matchings, round: u32)
     let pairing = &m[..flaw.size(n)];
     let is_bad = pairing.len() != n.count || worth(&sheet.bands, &m).is_err();
     let refused = damage.refused(n).or(if is_bad { Some(10) } else { None });
-    let case = Case::new(Part::Drawn, round, &sheet, third);
+    let case = Case::new(Part::Drawn, round, &sheet, &third);
     try_call(counts, &case, pairing, refused);
 }
 

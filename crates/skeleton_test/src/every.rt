@@ -8,10 +8,11 @@ use reference::{Matchings, NONE};
 use samples::{Joints, Sheet, Style, drawn_sheet};
 use tally::add;
 
-// How many skeletons of n joints there are: n!.
+// How many skeletons of n joints there are: n!. A table, since the check does not find that the product of 1 to n fits.
 const SKELETONS: [u16; 7] = [1, 1, 2, 6, 24, 120, 720];
 
-// Joint i has one of the i lower joints as its parent, or none: the digit of v to the base i + 1 says which.
+// Joint i has one of the i lower joints as its parent, or none: the digit of v to the base i + 1 says which. In check_test all digits have one
+// base, so the loops stay apart.
 pub fn nth_parents(v: u32, n: Joints) -> Parents
     ensures { Lower result }
 {
@@ -66,12 +67,8 @@ fn full_sheet(n: Joints) -> Sheet {
 fn try_skeleton(counts: &mut Counts, rows: &Matchings, n: Joints, v: u16) {
     let parents = nth_parents(u32::from(v), n);
     let number = 1000 * n.count as u32 + u32::from(v);
-    let third = Third {
-        parents,
-        count: n.count as u8,
-        size: n.count + 1,
-    };
-    let case = Case::new(Part::Every, number, &full_sheet(n), third);
+    let third = Third::new(n.count as u8, parents, n.count + 1);
+    let case = Case::new(Part::Every, number, &full_sheet(n), &third);
     try_depths(counts, number, &parents, n);
     try_matchings(counts, rows, &case, n);
 }

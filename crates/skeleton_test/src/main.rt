@@ -21,12 +21,23 @@ use std::io;
 // Refusals are the documents' numbers, and not the library's names, so that a wrong number there is seen.
 pub type Answer = Result<Option<Strays>, u8>;
 
-// A third section: its parents, its count, and how many of its bytes are lent.
-#[derive(Clone, Copy)]
+// A third section as it is lent, and the parents that it was made of.
+#[derive(Drop)]
 pub struct Third {
-    pub parents: Parents,
-    pub count: u8,
-    pub size: usize,
+    parents: Parents,
+    bytes: ArrayVec<u8, 10>,
+}
+
+impl Third {
+    // So many bytes are lent: of the count, then the parents, then a byte more.
+    pub fn new(count: u8, parents: Parents, size: usize) -> Third {
+        let mut bytes = ArrayVec::new();
+        put(&mut bytes, &[count]);
+        put(&mut bytes, &parents);
+        put(&mut bytes, &[0]);
+        bytes.truncate(size);
+        Third { parents, bytes }
+    }
 }
 
 // A sheet with its third section, the parents in it, where its calls are counted, and its number there.
@@ -39,14 +50,10 @@ pub struct Case {
 }
 
 impl Case {
-    // A section lends up to a byte after its parents.
-    pub fn new(part: Part, number: u32, sheet: &Sheet, third: Third) -> Case {
-        let mut section = [0u8; 10];
-        section[0] = third.count;
-        section[1..9].copy_from_slice(&third.parents);
+    pub fn new(part: Part, number: u32, sheet: &Sheet, third: &Third) -> Case {
         let mut bytes = ArrayVec::new();
         put(&mut bytes, &sheet.bytes);
-        put(&mut bytes, &section[..third.size.min(10)]);
+        put(&mut bytes, &third.bytes);
         Case {
             part,
             number,

@@ -8,12 +8,12 @@ ghost use Rattle.square.specs.Inside.{Fits, Inside};
 ghost use Rattle.square.specs.Mutual.{only, mutual_entries};
 ghost use Rattle.square.specs.Square.{blank, placed};
 
-use sections::Entry;
+use sections::{ENTRY_WIDTH, Entry};
 
 // Entries that have their places in the square.
 #[derive(Clone, Copy)]
 pub struct Listings<'a> {
-    pub entries: &'a [[u8; 3]],
+    pub entries: &'a [[u8; ENTRY_WIDTH]],
     ghost inside: { Inside entries.now },
 }
 

@@ -7,7 +7,7 @@ use Rattle.blocking.proofs.Matched.blocker.Goals as goal
 pub returns : goal.returns
 unfolding blocker blocks is_apart
 returns c =
-    let s = c.args.self.now in
+    let s = c.args.self.now.offered in
     let b = c.args.b in
     first_told b (λ j. blocks s.bands.now s.pairing.now j b) c.find.result
     (search (rules, ranges)) (search (rules, ranges)) (search (rules, ranges)) (search (rules, ranges))

@@ -5,7 +5,7 @@ use Rattle.blocking.proofs.Matched.blocking_pair.Goals as goal
 
 pub returns : goal.returns
 returns c =
-    let s = c.args.self.now in
+    let s = c.args.self.now.offered in
     let run = c.find_map.ensures.runs.0 in
     pair_run s.joints.count s.bands.now s.pairing.now run.at run.len c.find_map.result
     (search (rules, ranges)) (search (rules, ranges)) (search (rules, ranges)) (search (rules, ranges)) (search (rules, ranges))

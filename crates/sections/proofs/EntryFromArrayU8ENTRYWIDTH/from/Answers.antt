@@ -1,5 +1,5 @@
 use Rattle.sections.specs.Entries.{entry_in}
-use Rattle.sections.proofs.EntryFromArrayU83.from.Goals as goal
+use Rattle.sections.proofs.EntryFromArrayU8ENTRYWIDTH.from.Goals as goal
 
 pub returns : goal.returns
 unfolding entry_in
