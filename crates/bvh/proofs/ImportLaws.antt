@@ -21,12 +21,11 @@ use Rattle.words.specs.Words.{Words}
 use Rattle.names.specs.declared.joints.NamedJoint.{NamedJoint}
 use Rattle.names.specs.Names.{names_fault}
 use Rattle.names.specs.Kept.{kept_names}
-use Rattle.names.proofs.NamesRule.{names_rule, names_refused}
-use Rattle.names.proofs.KnownLaws.{names_length}
+use Rattle.names.proofs.NamesRule.{names_refused}
 use Rattle.hierarchy.specs.Hierarchy.{Met, left, broken, hierarchy, joints_met, met_fault}
 use Rattle.hierarchy.specs.Gathered.{gathered, WasRead}
 use Rattle.bvh.specs.Written.{sheet_for}
-use Rattle.bvh.specs.Places.{Writable, written_size}
+use Rattle.bvh.specs.Places.{written_size}
 use Rattle.bvh.specs.Answers.{sheet_in, import_fault, written_as, import_of, import_into}
 use Rattle.bvh.proofs.WriteLaws.{sheet_size}
 
@@ -99,19 +98,12 @@ import_refused s out r e =
 
 -- A HIERARCHY READ
 module _ {s rest : List ℕ} {joints : List NamedJoint} (good : names_fault (kept_names joints) ≡ 0) (read : WasRead s rest joints (hierarchy s)) where
-  -- its names fit labels
-  pub read_writable : Writable joints
-  read_writable =
-      let names = (names_rule (kept_names joints)).0 good in
-      let n = names_length joints in
-      record { few = omega (arith, names.few); short = λ i l. (names.each i (omega arith)).short }
-
   read_sheet : sheet_in s ≡ sheet_for (gathered joints)
   unfolding joints_met
   read_sheet = ap sheet_for (ap joints_met read.says)
 
   read_size : length (sheet_in s) ≡ written_size (length joints)
-  read_size = ap length read_sheet ∙ sheet_size read_writable
+  read_size = ap length read_sheet ∙ sheet_size joints good
 
   -- so only the buffer can be at fault
   read_fault : (out : List ℕ) → import_fault s (length out) ≡ when (ltb (length out) (length (sheet_in s))) 9

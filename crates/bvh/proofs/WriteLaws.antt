@@ -11,12 +11,13 @@ use Rattle.writing.specs.Written.{HasRoom, Puts}
 use Rattle.writing.proofs.Writers.{joined_puts, joined_room, taken_puts, taken_room}
 use Rattle.words.specs.Words.{Words}
 use Rattle.names.specs.declared.joints.NamedJoint.{NamedJoint}
-use Rattle.names.specs.Names.{name_of}
+use Rattle.names.specs.Names.{name_of, names_fault}
 use Rattle.names.specs.Kept.{kept_names, kept_parents}
+use Rattle.names.proofs.NamesRule.{names_rule}
 use Rattle.names.proofs.KnownLaws.{names_length}
 use Rattle.hierarchy.specs.Gathered.{gathered}
 use Rattle.bvh.specs.Written.{label_for, labels_for, sheet_for}
-use Rattle.bvh.specs.Places.{Writable, written_size}
+use Rattle.bvh.specs.Places.{written_size}
 use Rattle.bvh.proofs.SheetLaws.{sheet_length}
 
 -- the labels of the first i names
@@ -56,11 +57,16 @@ pub sheet_is : (joints : List NamedJoint)
 unfolding sheet_for
 sheet_is joints = rw (names_length joints) refl
 
-pub name_fits : {joints : List NamedJoint} → Writable joints → (i : ℕ) (d : NamedJoint) → i < length joints → length (get_or joints i d).name.now ≤ 16
-name_fits {joints} fit i d h = rw (← name_is joints i d h) (fit.short i h)
+-- names without a fault fit labels
+module _ (joints : List NamedJoint) (good : names_fault (kept_names joints) ≡ 0) where
+  names_fit : (i : ℕ) → i < length (kept_names joints) → length (name_of (kept_names joints) i) ≤ 16
+  names_fit i l = (((names_rule (kept_names joints)).0 good).each i l).short
 
-pub sheet_size : {joints : List NamedJoint} → Writable joints → length (sheet_for (gathered joints)) ≡ written_size (length joints)
-sheet_size {joints} fit =
-    let n = names_length joints in
-    let each = length-map joints (λ j. j.parent) in
-    sheet_length (gathered joints) (λ i l. fit.short i (omega arith)) ∙ omega arith
+  pub name_fits : (i : ℕ) (d : NamedJoint) → i < length joints → length (get_or joints i d).name.now ≤ 16
+  name_fits i d h = let n = names_length joints in rw (← name_is joints i d h) (names_fit i (omega arith))
+
+  pub sheet_size : length (sheet_for (gathered joints)) ≡ written_size (length joints)
+  sheet_size =
+      let n = names_length joints in
+      let each = length-map joints (λ j. j.parent) in
+      sheet_length (gathered joints) names_fit ∙ omega arith

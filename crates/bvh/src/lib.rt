@@ -16,12 +16,11 @@ pub fn import(text: &[u8], out: &mut [u8]) -> Result<usize, Refusal>
     ensures out_after { out.new ≡ import_into text.now out.old }
 {
     let hierarchy = hierarchy::read(text)?;
-    let joints = hierarchy.joints.as_slice();
-    let size = sheets::size_of(joints.len());
+    let size = sheets::size_of(&hierarchy.joints);
     if out.len() < size {
         return Err(Refusal::OutTooShort);
     }
     let mut sheet = Writer::new(out);
-    sheets::write_sheet(joints, &mut sheet);
+    sheets::write_sheet(&hierarchy.joints, &mut sheet);
     Ok(size)
 }

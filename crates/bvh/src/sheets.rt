@@ -4,18 +4,17 @@ ghost use Rattle.writing.specs.Written.{HasRoom, Puts};
 ghost use Rattle.names.specs.Kept.{kept_names, kept_parents};
 ghost use Rattle.hierarchy.specs.Gathered.{gathered};
 ghost use Rattle.bvh.specs.Written.{label_for, labels_for, sheet_for};
-ghost use Rattle.bvh.specs.Places.{Writable, written_size};
+ghost use Rattle.bvh.specs.Places.{written_size};
 
-use names::NamedJoint;
+use names::NamedJoints;
 use sections::LABEL_WIDTH;
 use writing::Writer;
 
-// The bytes of a sheet of so many joints without entries: three counts, a label and a parent for each joint.
-pub fn size_of(joints: usize) -> usize
-    requires { joints ≤ 128 }
-    ensures { result ≡ written_size joints }
+// The bytes of a sheet of joints without entries: three counts, a label and a parent for each joint.
+pub fn size_of(joints: &NamedJoints<'_>) -> usize
+    ensures { result ≡ written_size (length joints.now.list.items) }
 {
-    4 + (LABEL_WIDTH + 1) * joints
+    4 + (LABEL_WIDTH + 1) * joints.len()
 }
 
 // The label of a name.
@@ -27,29 +26,29 @@ fn write_label(name: &[u8], out: &mut Writer<'_>)
     out.zeros(LABEL_WIDTH - name.len());
 }
 
-fn write_labels(joints: &[NamedJoint<'_>], out: &mut Writer<'_>)
-    requires { Writable joints.now × HasRoom out.old (labels_for (kept_names joints.now)) }
-    ensures { Puts out.old (labels_for (kept_names joints.now)) out.new }
+fn write_labels(joints: &NamedJoints<'_>, out: &mut Writer<'_>)
+    requires { HasRoom out.old (labels_for (kept_names joints.now.list.items)) }
+    ensures { Puts out.old (labels_for (kept_names joints.now.list.items)) out.new }
 {
-    for joint in joints {
+    for joint in joints.as_slice() {
         write_label(joint.name, out);
     }
 }
 
-fn write_parents(joints: &[NamedJoint<'_>], out: &mut Writer<'_>)
-    requires { HasRoom out.old (kept_parents joints.now) }
-    ensures { Puts out.old (kept_parents joints.now) out.new }
+fn write_parents(joints: &NamedJoints<'_>, out: &mut Writer<'_>)
+    requires { HasRoom out.old (kept_parents joints.now.list.items) }
+    ensures { Puts out.old (kept_parents joints.now.list.items) out.new }
 {
-    for joint in joints {
+    for joint in joints.as_slice() {
         out.put(joint.parent);
     }
 }
 
 // The count of joints and their labels; no entries; the count of parents and these. The count narrows by `as`: it is 128 at most, and `try_from`
 // would have an error that cannot be.
-pub fn write_sheet(joints: &[NamedJoint<'_>], out: &mut Writer<'_>)
-    requires { Writable joints.now × HasRoom out.old (sheet_for (gathered joints.now)) }
-    ensures { Puts out.old (sheet_for (gathered joints.now)) out.new }
+pub fn write_sheet(joints: &NamedJoints<'_>, out: &mut Writer<'_>)
+    requires { HasRoom out.old (sheet_for (gathered joints.now.list.items)) }
+    ensures { Puts out.old (sheet_for (gathered joints.now.list.items)) out.new }
 {
     let count = joints.len() as u8;
     out.put(count);

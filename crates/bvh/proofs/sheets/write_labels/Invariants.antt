@@ -4,4 +4,4 @@ use Rattle.bvh.proofs.WriteLaws.{first_labels}
 use Rattle.bvh.proofs.sheets.write_labels.Given as goal
 
 abbrev pub invariant-loop-joint : goal.invariant-loop-joint
-invariant-loop-joint l = Puts l.initial.out (first_labels (kept_names l.joints) l.joint-index) l.out
+invariant-loop-joint l = Puts l.initial.out (first_labels (kept_names l.joints.list.items) l.joint-index) l.out

@@ -4,4 +4,4 @@ use Rattle.names.specs.Kept.{kept_parents}
 use Rattle.bvh.proofs.sheets.write_parents.Given as goal
 
 abbrev pub invariant-loop-joint : goal.invariant-loop-joint
-invariant-loop-joint l = Puts l.initial.out (take l.joint-index (kept_parents l.joints)) l.out
+invariant-loop-joint l = Puts l.initial.out (take l.joint-index (kept_parents l.joints.list.items)) l.out
