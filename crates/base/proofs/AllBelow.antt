@@ -1,6 +1,6 @@
 -- Laws of `all_below`.
 use mathlib.Core.Path.{◌≡◌, refl, ap, ◌∙◌}
-use mathlib.Core.Bool.{Bool, true, false, and-true, and-false}
+use mathlib.Core.Bool.{Bool, true, false, and-true}
 use Prim.Native.Nat.{ℕ, zero, suc, ◌+◌, ◌<◌}
 use native.Mathlib.Numerals.{add-one}
 use native.Mathlib.Omega.{arith}
@@ -24,16 +24,8 @@ all_pass (suc i) test h = rw (all_pass i test (λ j l. h j (omega arith))) (h i 
 pub all_miss : (n : ℕ) (test : ℕ → Bool) (i : ℕ) → i < n → test i ≡ false → all_below n test ≡ false
 all_miss n test i l h = tests.not_so (all_below n test) (λ e. tests.never _ (all_true n test e i l) h)
 
-pub all_zero_lem : (test : ℕ → Bool) → all_below 0 test ≡ true
-unfolding all_below
-all_zero_lem test = refl
-
 -- IN A LOOP that goes on to the end
 module _ (i : ℕ) (test : ℕ → Bool) where
-  pub all_fails : test i ≡ false → false ≡ all_below (i + 1) test
-  unfolding all_below
-  all_fails h = rw (add-one i, h, and-false)
-
   pub all_same : {s : Bool} → s ≡ all_below i test → test i ≡ true → s ≡ all_below (i + 1) test
   unfolding all_below
   all_same e h = rw (add-one i, h, and-true) e

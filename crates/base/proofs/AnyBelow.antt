@@ -1,6 +1,6 @@
 -- Laws of `any_below`.
 use mathlib.Core.Path.{◌≡◌, refl, sym, ap, ◌∙◌}
-use mathlib.Core.Bool.{Bool, true, false, or-true, or-false}
+use mathlib.Core.Bool.{Bool, true, false}
 use Prim.Native.Nat.{ℕ, zero, suc, ◌+◌, ◌≤◌, ◌<◌}
 use native.Mathlib.Numerals.{add-one}
 use native.Mathlib.Omega.{arith}
@@ -42,10 +42,6 @@ any_hit zero test i l h = absurd (omega arith)
 any_hit (suc n) test i l h =
     case (eq_ne i n) (λ e. or_right (any_below n test) (test n) (rw (← e) h)) (λ ne. rw (any_hit n test i (omega arith) h))
 
-pub any_zero : (test : ℕ → Bool) → any_below 0 test ≡ false
-unfolding any_below
-any_zero test = refl
-
 pub any_next : (n : ℕ) (test : ℕ → Bool) → any_below n test ≡ false → test n ≡ false → any_below (n + 1) test ≡ false
 unfolding any_below
 any_next n test h e = rw (add-one, h) e
@@ -53,13 +49,3 @@ any_next n test h e = rw (add-one, h) e
 -- the loop has passed every number below n
 pub any_end : (i n : ℕ) (test : ℕ → Bool) → any_below i test ≡ false → i ≤ n → n ≤ i → false ≡ any_below n test
 any_end i n test h l g = let e : i ≡ n = omega arith in sym (rw e at h)
-
--- IN A LOOP that goes on to the end
-module _ (i : ℕ) (test : ℕ → Bool) where
-  pub any_more : test i ≡ true → true ≡ any_below (i + 1) test
-  unfolding any_below
-  any_more h = rw (add-one i, h, or-true)
-
-  pub any_same : {s : Bool} → s ≡ any_below i test → test i ≡ false → s ≡ any_below (i + 1) test
-  unfolding any_below
-  any_same e h = rw (add-one i, h, or-false) e

@@ -1,7 +1,6 @@
 -- Laws of `lowest`.
-use mathlib.Core.Path.{◌≡◌, refl, sym, ap, ◌∙◌}
+use mathlib.Core.Path.{◌≡◌, sym, ap, ◌∙◌}
 use mathlib.Core.Bool.{Bool, true, false, cond}
-use mathlib.Core.Logic.{◌⊎◌, inl, inr}
 use Prim.Native.Nat.{ℕ, zero, suc, ◌+◌, ◌-◌, ◌≤◌, ◌<◌}
 use native.Mathlib.Numerals.{add-one}
 use native.Mathlib.Nat.{sub-zero}
@@ -78,27 +77,3 @@ module _ (n i : ℕ) (test : ℕ → Bool) where
       let z : n - i ≡ 0 = omega arith in
       let s : n ≡ i = omega arith in
       s ∙ (rw z at e)
-
--- IN A LOOP that goes on up to the lowest found: it stands at i, with low as the lowest so far, none yet, or the one that is sought
-pub record Search (n : ℕ) (test : ℕ → Bool) (low i : ℕ) : Type 0 where
-  pub within : low ≤ n
-  pub state : ((low ≡ n) × (i ≤ n) × (lowest_from (n - i) i test ≡ lowest n test)) ⊎ ((low < i) × (low ≡ lowest n test))
-
-module _ (n : ℕ) (test : ℕ → Bool) where
-  pub search_starts : Search n test n 0
-  search_starts = record { within = omega arith; state = inl (refl, omega arith, lowest_starts n _) }
-
-  pub search_finds : (low i : ℕ) → Search n test low i → i < low → test i ≡ true → Search n test i (i + 1)
-  search_finds low i s h p = case s.state
-      (λ o. record { within = omega arith; state = inr (omega arith, lowest_hit n i _ (omega arith) o.2 p) })
-      (λ d. absurd (omega arith))
-
-  pub search_goes_on : (low i : ℕ) → Search n test low i → i < low → test i ≡ false → Search n test low (i + 1)
-  search_goes_on low i s h p = case s.state
-      (λ o. record { within = s.within; state = inl (o.0, omega arith, lowest_miss n i _ (omega arith) o.2 p) })
-      (λ d. absurd (omega arith))
-
-  pub search_ends : (low i : ℕ) → Search n test low i → low ≤ i → low ≡ lowest n test
-  search_ends low i s h = case s.state
-      (λ o. o.0 ∙ lowest_none n i _ (omega arith) o.1 o.2)
-      (λ d. d.1)

@@ -1,6 +1,6 @@
 -- Laws of the refusals' numbers.
 use Rattle.std.proofs.Common.{◌≡◌, ◌≢◌, ℕ, zero, suc, ◌+◌, ◌≤◌, ◌<◌, ◌⊎◌, ◌↔◌, inl, inr, refl, sym, ap, ◌∙◌, arith, rules}
-use Rattle.std.proofs.Common.{List, [], ◌∷◌, Option, Some, None, Result, Ok, Err, get_or}
+use Rattle.std.proofs.Common.{List, [], ◌∷◌, Option, Some, None, Ok, Err, get_or}
 use Rattle.base.proofs.Cases.{case}
 use Rattle.refusals.specs.Numbers.{number_of, by_number, refusal_of, unless, answered, fault_of, fault_in, RefusedAs}
 use Rattle.refusals.specs.Claims.{NumberedOnce}
@@ -168,11 +168,6 @@ module _ {A : Type 0} (value : A) (k : ℕ) where
   -- it is answered in place of any other value too
   pub refused_alike : {B : Type 0} (other : B) (r : Refusal) → answered k value ≡ Err r → Err r ≡ answered k other
   refused_alike other r e = answered_refused other k r (refusal_answered r e)
-
-  -- by `?`: an answer of another value
-  pub refused_on : {B : Type 0} (other : B) (r : Result A Refusal) (s : Result B Refusal) (e : Refusal) → r ≡ answered k value → r ≡ Err e → s ≡ Err e
-      → s ≡ answered k other
-  refused_on other r s e from here there = there ∙ refused_alike other e (sym from ∙ here)
 
   -- exactly the refusal of the fault is answered
   pub refused_as : IsFault k → (j : ℕ) → RefusedAs (answered k value) j ↔ ((k ≡ j) × (1 ≤ j))

@@ -14,7 +14,8 @@ const ROUNDS: u32 = 6144;
 const STRIDE: usize = 309;
 
 // What is wrong with a third section: it is left out, has another count than n, is a byte short, counts more parents than there are, has a
-// byte after it, counts fewer than there are, a joint has itself as its parent, or a higher joint.
+// byte after it, counts fewer than there are, a joint has itself as its parent, or a higher joint. `Nothing` is a case and no None, since each
+// method has something to say of it: what a whole section is.
 #[derive(Clone, Copy, PartialEq, Eq)]
 enum Damage {
     LeftOut,
@@ -111,7 +112,7 @@ fn drawn_matching(rows: &Matchings, bands: &Bands, seed: usize) -> Pairing {
 }
 
 // What is wrong with a pairing: it has a byte more (fewer where there are 8 joints), a byte less (more where there are none), a joint is made
-// unpaired, or has any number up to 8 as its partner, or any two joints are paired and no others.
+// unpaired, or has any number up to 8 as its partner, or any two joints are paired and no others. `Nothing` is a case, as that of `Damage` is.
 #[derive(Clone, Copy)]
 enum Flaw {
     Long,

@@ -5,9 +5,12 @@ use Rattle.pairing.proofs.LawsCCodes.{shorten_count_small}
 use Rattle.pairing.proofs.shortening.mirror_shorten.Goals as goal
 
 pub found_code-requires : goal.found_code-requires
-found_code-requires c = (omega arith, λ k e.
-    let a = c.args in
-    shorten_count_small a.sheet.now a.choices.now a.out.now k (sym c.shorten.ensures.value ∙ e))
+found_code-requires c = (
+  omega arith,
+  λ k e.
+      let a = c.args in
+      shorten_count_small a.sheet.now a.choices.now a.out.now k (sym c.shorten.ensures.value ∙ e),
+)
 
 pub returns : goal.returns
 returns c =
