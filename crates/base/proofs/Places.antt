@@ -1,4 +1,4 @@
--- The places of a list: what stands for a missing element does not matter inside it, and what is left from a place on.
+-- What is left of a list from a place on.
 use mathlib.Core.Path.{◌≡◌}
 use mathlib.Core.List.{List}
 use Prim.Native.Nat.{ℕ, ◌-◌}

@@ -1,4 +1,5 @@
-// Which pair blocks a matching, and what offered partner bytes are worth.
+// Which pair blocks a matching, and what offered partner bytes are worth. A joint is a plain number with its bound in clauses, as in lists: a loop's
+// number is an index at once.
 #![tactic(auto)]
 
 ghost use Rattle.std.specs.Prelude.{true, ◌≡◌, ◌<◌};
@@ -24,6 +25,7 @@ impl Matched<'_> {
         ensures { result ≡ welcomes self.now.offered.bands.now self.now.offered.pairing.now a b }
     {
         let Offered { bands, pairing, .. } = self.offered;
+        // a match, as in `is_placed` of matching, and for its reason
         match partner(pairing, a) {
             None => true,
             Some(p) => bands[a][b] <= bands[a][p],

@@ -5,7 +5,6 @@ use mathlib.Core.Logic.{inr, ◌≢◌}
 use Prim.Native.Nat.{ℕ, ◌≤◌, ◌<◌}
 use native.Mathlib.Omega.{arith}
 use lib.ListN.{length, drop}
-use Rattle.base.proofs.Cases.{unlike}
 use Rattle.base.proofs.Faults.{below_zero}
 use Rattle.sections.specs.Labels.{labels_fault}
 use Rattle.sections.specs.Entries.{entries_from, entries_fault}
@@ -69,7 +68,7 @@ module _ (s : List ℕ) (h : Roots) (spells : Spells s h) (good : GoodNames (roo
         accepted = no_fault;
         as_many = many;
         labels = λ i l. sheet_label (joints_in h) short i (omega arith);
-        has_parents = λ e. unlike cc;
+        has_parents = λ e. cc;
         parents = ap (drop 1) parted;
         unranked = rw (sheet_entries (joints_in h) short);
       }

@@ -9,7 +9,7 @@ use lib.Dec.{ltb}
 use lib.ListN.{length, take, drop}
 use lib.Seq.{take-append_seam, drop-append_seam}
 use Rattle.base.specs.Faults.{when, first_fault}
-use Rattle.base.proofs.Cases.{case, unlike}
+use Rattle.base.proofs.Cases.{case}
 use Rattle.base.proofs.Faults.{first_answered, first_none, fault_here, fault_behind, fault_passes, last_fault, when_less}
 use Rattle.std.specs.Prelude.{Ok, Err}
 use Rattle.refusals.specs.declared.Refusal.{Refusal}
@@ -55,14 +55,14 @@ met_broken (left ws js) =
     (λ h. absurd (not_nineteen js.names h), λ h. absurd (h.1 (ws, refl)))
 met_broken (broken js) =
     let b = fault_behind (names_fault js.names) (19 ∷ []) 19 (not_nineteen js.names) in
-    (λ h. ((b.0 h).0, λ r. let e = r.1 in unlike cc), λ h. b.1 (h.0, last_fault 19))
+    (λ h. ((b.0 h).0, λ r. let e = r.1 in cc), λ h. b.1 (h.0, last_fault 19))
 
 met_none : (met : Met) → met_fault met ≡ 0 ↔ ((names_fault (joints_met met).names ≡ 0) × ReadOut met)
 unfolding met_fault joints_met
 met_none (left ws js) = (λ h. (h, (ws, refl)), λ h. h.0)
 met_none (broken js) = (
   λ h. let last = sym (last_fault 19) ∙ (first_none (names_fault js.names) (19 ∷ []) h).1 in absurd (omega arith),
-  λ h. let e = h.1.1 in absurd (unlike cc),
+  λ h. let e = h.1.1 in cc,
 )
 
 -- A TEXT THAT SPELLS A HIERARCHY is read to its end, and its joints are met

@@ -5,7 +5,7 @@ use Prim.Native.Nat.{ℕ, ◌+◌, ◌≤◌, ◌<◌}
 use native.Mathlib.Omega.{arith}
 use lib.ListN.{length, get_or, take, length-map, get_or-map}
 use Rattle.base.specs.Below.{joined}
-use Rattle.base.proofs.Places.{get_d_inside}
+use Rattle.std.proofs.lemmas.List.{get_or_default}
 use Rattle.writing.specs.declared.Writer.{Writer}
 use Rattle.writing.specs.Written.{HasRoom, Puts}
 use Rattle.writing.proofs.Writers.{joined_puts, joined_room, taken_puts, taken_room}
@@ -29,7 +29,7 @@ module _ (joints : List NamedJoint) (i : ℕ) (d : NamedJoint) (h : i < length j
   pub name_is : name_of (kept_names joints) i ≡ (get_or joints i d).name.now
   name_is =
       let n = names_length joints in
-      get_d_inside (kept_names joints) i [] d.name.now (omega arith) ∙ get_or-map (λ j. j.name.now) joints i d
+      get_or_default (kept_names joints) i [] d.name.now (omega arith) ∙ get_or-map (λ j. j.name.now) joints i d
 
   pub label_room : {w w₁ : Writer} → HasRoom w (labels_for (kept_names joints)) → Puts w (first_labels (kept_names joints) i) w₁
       → HasRoom w₁ (label_for (get_or joints i d).name.now)
@@ -48,7 +48,7 @@ module _ (joints : List NamedJoint) (i : ℕ) (d : NamedJoint) (h : i < length j
   parent_more u v =
       let n = length-map joints (λ j. j.parent) in
       let own : get_or (kept_parents joints) i 0 ≡ (get_or joints i d).parent =
-      get_d_inside (kept_parents joints) i 0 d.parent (omega arith) ∙ get_or-map (λ j. j.parent) joints i d in
+      get_or_default (kept_parents joints) i 0 d.parent (omega arith) ∙ get_or-map (λ j. j.parent) joints i d in
       taken_puts (kept_parents joints) i (omega arith) u (rw own v)
 
 -- THE SHEET of joints, by its pieces, and how long it is

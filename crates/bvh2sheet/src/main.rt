@@ -22,7 +22,8 @@ const STDOUT: i32 = 1;
 
 const STDERR: i32 = 2;
 
-// Puts a mark behind the bytes that were read, unless the input ended there. Returns how many bytes the text has then.
+// Puts a mark behind the bytes that were read, unless the input ended there. Returns how many bytes the text has then: a buffer and a size, as
+// crate io fills it.
 fn close(text: &mut [u8], size: usize, ended: bool) -> usize
     requires { size < length text.old }
     ensures prefix_len { IsPrefixLen result text.new }
@@ -51,7 +52,7 @@ fn read_text(input: &mut impl Read, text: &mut [u8]) -> usize
     close(text, size, has_ended(input))
 }
 
-// Writes what is said of a refusal, and returns its length.
+// Writes what is said of a refusal, as mirror says it, and returns its length.
 fn write_refused(refusal: Refusal, line: &mut [u8; 12]) -> usize
     ensures prefix_len { IsPrefixLen result line.new }
     ensures line_after { take result line.new ≡ refused_line (number_of refusal) }

@@ -1,4 +1,5 @@
 // What the program counts, and prints at its end.
+use crate::machine::Parents;
 use std::fmt;
 use tally::{Comparisons, Refusals, add};
 
@@ -34,17 +35,18 @@ impl Default for Sums {
 
 impl Sums {
     // What is said of a text whose joints have these parents.
-    fn note(&mut self, said: Result<usize, u8>, parents: &[u8]) {
+    fn note(&mut self, said: Result<usize, u8>, parents: &Parents) {
         add(&mut self.texts, 1);
         if let Err(number) = said {
             self.refused.note(number);
             return;
         }
         add(&mut self.sheets, 1);
-        for parent in parents {
-            add(&mut self.joints, 1);
-            add(&mut self.parents, u32::from(*parent));
-        }
+        // By `as`, since a number up to 128 fits; try_from would have an error that cannot be.
+        add(&mut self.joints, parents.len() as u32);
+        self.parents = parents.iter().fold(self.parents, |sum, parent| {
+            sum.wrapping_add(u32::from(*parent))
+        });
     }
 }
 
@@ -67,7 +69,7 @@ pub struct Counts {
 }
 
 impl Counts {
-    pub fn note(&mut self, part: Part, said: Result<usize, u8>, parents: &[u8]) {
+    pub fn note(&mut self, part: Part, said: Result<usize, u8>, parents: &Parents) {
         let sums = match part {
             Part::Changed => &mut self.changed,
             Part::Cut => &mut self.cut,

@@ -5,6 +5,9 @@ use samples::put;
 // A label: a name with zeros behind it.
 type Label = [u8; 16];
 
+// The parents of joints, each a byte as a sheet has it.
+pub type Parents = ArrayVec<u8, 128>;
+
 // What must come next: a keyword, a name or a count; or the hierarchy has ended, or the text is refused.
 #[derive(Clone, Copy, PartialEq, Eq)]
 enum Due {
@@ -29,21 +32,21 @@ enum Due {
 const MOST: u32 = 20000;
 
 // What must come next, and how many words of any kind come before it; the joints whose blocks are open, the outermost first; and the joints
-// that were met, with their parents.
+// that were met, with their parents. Labels and parents are lists of their own, since a sheet has all labels before all parents, each list whole.
 #[derive(Drop)]
 pub struct Machine {
     due: Due,
     left: u32,
     open: ArrayVec<u8, 32>,
     labels: ArrayVec<Label, 128>,
-    pub parents: ArrayVec<u8, 128>,
+    pub parents: Parents,
 }
 
 fn is_gap(byte: u8) -> bool {
     matches!(byte, b'\t' | b'\n' | b'\r' | b' ')
 }
 
-// What a word counts.
+// What a word counts. By digits, since `parse` takes a plus too, and has an error for a number that no u32 holds, which is a count here.
 fn count_of(word: &[u8]) -> Option<u32> {
     let mut count = 0u32;
     for byte in word {

@@ -3,7 +3,7 @@ use Rattle.std.proofs.Common.{◌≡◌, ◌≢◌, ◌↔◌, ℕ, zero, suc, �
 use mathlib.Core.Logic.{inl}
 use native.Mathlib.Omega.{arith}
 use Rattle.base.specs.Faults.{when, first_fault}
-use Rattle.base.proofs.Cases.{case, unlike}
+use Rattle.base.proofs.Cases.{case}
 use Rattle.base.proofs.Faults.{first_holds, when_holds, last_fault}
 use Rattle.refusals.specs.declared.Refusal.{Refusal}
 use Rattle.refusals.specs.Numbers.{refusal_of, fault_in}
@@ -42,27 +42,27 @@ refusal_in (Err e) r none some = some e refl ∙ sym (refusal_back e)
 
 -- A RESULT comes of no refusal and the verdict `Paired`; none of a verdict that is another.
 pub settled_paired : (v : Stage) (c k : ℕ) → ended_as v c ≡ E.Paired k → (v ≡ Paired) × (c ≡ k)
-settled_paired Proposing c k h = absurd (unlike cc)
-settled_paired Cutting c k h = absurd (unlike cc)
-settled_paired NoneOne c k h = absurd (unlike cc)
-settled_paired NoneTwo c k h = absurd (unlike cc)
+settled_paired Proposing c k h = cc
+settled_paired Cutting c k h = cc
+settled_paired NoneOne c k h = cc
+settled_paired NoneTwo c k h = cc
 settled_paired Paired c k h = let e : c ≡ k = cc in (refl, e)
 
 pub settled_none : (v : Stage) (c : ℕ) (p : Phase) → ended_as v c ≡ E.None p → v ≢ Paired
-settled_none v c p h e = let i : E.Paired c ≡ E.None p = ap (λ (x : Stage). ended_as x c) (sym e) ∙ h in unlike cc
+settled_none v c p h e = let i : E.Paired c ≡ E.None p = ap (λ (x : Stage). ended_as x c) (sym e) ∙ h in cc
 
 pub settled_none_one : (v : Stage) (c : ℕ) → ended_as v c ≡ E.None P.One ↔ (v ≡ NoneOne)
-settled_none_one Proposing c = (λ h. absurd (unlike cc), λ e. ap (λ (x : Stage). ended_as x c) e)
-settled_none_one Cutting c = (λ h. absurd (unlike cc), λ e. ap (λ (x : Stage). ended_as x c) e)
+settled_none_one Proposing c = (λ h. cc, λ e. ap (λ (x : Stage). ended_as x c) e)
+settled_none_one Cutting c = (λ h. cc, λ e. ap (λ (x : Stage). ended_as x c) e)
 settled_none_one NoneOne c = (λ h. refl, λ e. refl)
-settled_none_one NoneTwo c = (λ h. absurd (unlike cc), λ e. ap (λ (x : Stage). ended_as x c) e)
-settled_none_one Paired c = (λ h. absurd (unlike cc), λ e. ap (λ (x : Stage). ended_as x c) e)
+settled_none_one NoneTwo c = (λ h. cc, λ e. ap (λ (x : Stage). ended_as x c) e)
+settled_none_one Paired c = (λ h. cc, λ e. ap (λ (x : Stage). ended_as x c) e)
 
 pub shortened_lists : (v : Stage) (c k : ℕ) → listed_as v c ≡ Some k → (v ≡ Paired) × (c ≡ k)
-shortened_lists Proposing c k h = absurd (unlike cc)
-shortened_lists Cutting c k h = absurd (unlike cc)
-shortened_lists NoneOne c k h = absurd (unlike cc)
-shortened_lists NoneTwo c k h = absurd (unlike cc)
+shortened_lists Proposing c k h = cc
+shortened_lists Cutting c k h = cc
+shortened_lists NoneOne c k h = cc
+shortened_lists NoneTwo c k h = cc
 shortened_lists Paired c k h = let e : c ≡ k = cc in (refl, e)
 
 -- a pairing is written

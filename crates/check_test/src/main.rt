@@ -100,15 +100,15 @@ fn number_of(said: Answer) -> u32 {
 }
 
 // The digits of v to the base 7, lowest first, with 255 for 6; 255 past the first n. In skeleton_test each digit has a base of its own, so the
-// loops stay apart.
+// loops stay apart. By `as`, since a digit below 6 fits; try_from would have an error that cannot be.
 fn vector(v: u32, n: Joints) -> Pairing {
     let mut m = [NONE; 8];
     let mut rest = v;
-    for i in 0..n.count {
+    for p in &mut m[..n.count] {
         let digit = rest % 7;
         rest /= 7;
         if digit < 6 {
-            m[i] = digit as u8;
+            *p = digit as u8;
         }
     }
     m

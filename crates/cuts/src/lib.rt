@@ -21,7 +21,8 @@ fn trial(n: Joints, mut lists: [[u8; 128]; 128], v: usize) -> [[u8; 128]; 128]
     run_out(n, lists)
 }
 
-// the joints set aside: those with an empty list
+// The joints set aside, those with an empty list: bytes, 1 or 0, as `Progress` of proposals has them. By index, since of what is written through
+// `iter_mut` only the length is known.
 pub fn set_aside(n: Joints, bands: &[[u8; 128]; 128]) -> [u8; 128]
     ensures { result ≡ aside_of n.count bands.now }
 {

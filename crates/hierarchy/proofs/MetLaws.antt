@@ -1,7 +1,7 @@
 -- Words met in their places, both ways: what is spelt there is met, and what is met is spelt there.
 use mathlib.Core.Path.{◌≡◌, refl, ap}
 use mathlib.Core.List.{List, [], ◌∷◌, ◌++◌}
-use mathlib.Core.Option.{some, bind, bind-eq-some_iff, none-ne-some}
+use mathlib.Core.Option.{none, some, bind, bind-eq-some_iff}
 use Prim.Native.Nat.{ℕ, zero, suc}
 use lib.ListN.{length}
 use Rattle.base.proofs.Cases.{case, both_ways}
@@ -21,11 +21,11 @@ keyword_met key ws = rw (same_true key key refl)
 
 pub met_keyword : (key : List ℕ) (ws ws' : Words) → keyword key ws ≡ some ws' → ws ≡ key ∷ ws'
 unfolding keyword
-met_keyword key [] ws' h = absurd (none-ne-some ws' h)
+met_keyword key [] ws' h = cc
 met_keyword key (w ∷ ws) ws' h =
     case (both_ways (same_bytes w key))
     (λ t. let e : some ws ≡ some ws' = rw t at h in let q = same_equal w key t in cc)
-    (λ f. absurd (none-ne-some ws' (rw f at h)))
+    (λ f. let e : none ≡ some ws' = rw f at h in cc)
 
 -- ANY WORDS
 any_met : (v ws : Words) → any_words (length v) (v ++ ws) ≡ some ws
@@ -36,7 +36,7 @@ any_met (w ∷ v) ws = any_met v ws
 met_any : (k : ℕ) (ws ws' : Words) → any_words k ws ≡ some ws' → (v : Words) × ((k ≡ length v) × (ws ≡ v ++ ws'))
 unfolding any_words
 met_any zero ws ws' h = ([], (refl, cc))
-met_any (suc k) [] ws' h = absurd (none-ne-some ws' h)
+met_any (suc k) [] ws' h = cc
 met_any (suc k) (w ∷ ws) ws' h =
     let (v, (e, q)) = met_any k ws ws' h in
     (w ∷ v, (ap suc e, cc))
@@ -48,13 +48,13 @@ counted_met c ws = rw (c.digits, c.as_many) (any_met c.each ws)
 
 met_counted : (ws ws' : Words) → counted ws ≡ some ws' → (c : Channels) × (ws ≡ c.count ∷ (c.each ++ ws'))
 unfolding counted
-met_counted [] ws' h = absurd (none-ne-some ws' h)
+met_counted [] ws' h = cc
 met_counted (w ∷ ws) ws' h =
     case (both_ways (all_digits w))
     (λ t.
     let (v, (e, q)) = met_any (value_after 0 w) ws ws' (rw t at h) in
     (record { count = w; each = v; digits = t; as_many = e }, cc))
-    (λ f. absurd (none-ne-some ws' (rw f at h)))
+    (λ f. let e : none ≡ some ws' = rw f at h in cc)
 
 -- AN OPENING, with three words
 opening_met : (o : Offset) (ws : Words) → opening (open_word ∷ (spelt_offset o ++ ws)) ≡ some ws
@@ -63,9 +63,9 @@ opening_met o ws = rw (keyword_met, keyword_met)
 
 met_three : (ws ws' : Words) → any_words 3 ws ≡ some ws' → (o : Offset) × (offset_word ∷ ws ≡ spelt_offset o ++ ws')
 unfolding any_words
-met_three [] ws' h = absurd (none-ne-some ws' h)
-met_three (x ∷ []) ws' h = absurd (none-ne-some ws' h)
-met_three (x ∷ (y ∷ [])) ws' h = absurd (none-ne-some ws' h)
+met_three [] ws' h = cc
+met_three (x ∷ []) ws' h = cc
+met_three (x ∷ (y ∷ [])) ws' h = cc
 met_three (x ∷ (y ∷ (z ∷ ws))) ws' h = (record { x = x; y = y; z = z }, cc)
 
 met_opening : (ws ws' : Words) → opening ws ≡ some ws' → (o : Offset) × (ws ≡ open_word ∷ (spelt_offset o ++ ws'))

@@ -74,7 +74,7 @@ module _ (ps : List ℕ) (lower : Lower ps) where
   inside_depths : (i : Inside) (own k d : ℕ) → own < 255 → k + length (names_in i) ≤ 255 → Lies ps k (enclosing own k i)
       → Nests d i ↔ Within ps k (k + length (names_in i)) (depth_of ps own + d)
   unfolding Nests names_in enclosing
-  inside_depths nothing own k d o r l = (λ n i from to. absurd (omega arith), λ w. record {})
+  inside_depths nothing own k d o r l = (λ n i from to. omega arith, λ w. record {})
   inside_depths (end_site _ after) own k d o r l = inside_depths after own k d o r l
   inside_depths (joint _ _ _ inside after) own k zero o r l =
       let e = depth_in_lem own k o (lies_first l).0 in
@@ -99,7 +99,7 @@ module _ (ps : List ℕ) (lower : Lower ps) where
       let both =
       within_block {B = record {}} ps k (length (names_in inside)) 0 31 31 (omega arith)
       (inside_depths inside k (k + 1) 31 (omega arith) (omega arith) rest)
-      (λ u i from to. absurd (omega arith), λ w. record {}) in
+      (λ u i from to. omega arith, λ w. record {}) in
       (λ n i from to. both.0 (n, record {}) i from (omega arith), λ w. (both.1 (λ i from to. w i from (omega arith))).0)
   roots_depths (more _ _ _ inside after) k r l =
       let sum = length-append (names_in inside) (root_names after) in

@@ -7,7 +7,7 @@ use Prim.Native.Nat.{ℕ, zero, suc}
 use lib.ListN.{length}
 use Rattle.std.specs.Prelude.{Some, None}
 use Rattle.std.specs.Prelude as found
-use Rattle.base.proofs.Cases.{case, both_ways, unlike}
+use Rattle.base.proofs.Cases.{case, both_ways}
 use Rattle.parents.specs.Parents.{root}
 use Rattle.sections.specs.Labels.{same_bytes}
 use Rattle.sections.proofs.LabelLaws.{same_equal}
@@ -43,14 +43,14 @@ use Rattle.hierarchy.proofs.Adding.{adding, adding_block, adding_roots, adding_n
 pub left_behind : (o : Option Words) (js : Joints) (next : Words → Met) (ws' : Words) (js' : Joints) → behind o js next ≡ left ws' js'
     → (on : Words) × ((o ≡ some on) × (next on ≡ left ws' js'))
 unfolding behind
-left_behind none js next ws' js' h = absurd (unlike (cc))
+left_behind none js next ws' js' h = cc
 left_behind (some on) js next ws' js' h = (on, (refl, h))
 
 left_then : (m : Met) (next : Words → Joints → Met) (ws' : Words) (js' : Joints) → and_then m next ≡ left ws' js'
     → (on : Words) × ((met : Joints) × ((m ≡ left on met) × (next on met ≡ left ws' js')))
 unfolding and_then
 left_then (left on met) next ws' js' h = (on, (met, (refl, h)))
-left_then (broken js) next ws' js' h = absurd (unlike (cc))
+left_then (broken js) next ws' js' h = cc
 
 -- WHAT STANDS IN A BLOCK, where it was read; and what so many turns promise
 record ReadInside (d own : ℕ) (ws : Words) (js : Joints) (ws' : Words) (js' : Joints) : Type 0 where
@@ -75,7 +75,7 @@ record ReadBlock (d above : ℕ) (ws : Words) (js : Joints) (ws' : Words) (js' :
 read_block : (f : ℕ) → ReadsIn f → (d above : ℕ) (ws : Words) (js : Joints) (ws' : Words) (js' : Joints) → block (children f d) above ws js ≡ left ws' js'
     → ReadBlock d above ws js ws' js'
 unfolding block
-read_block f reads d above [] js ws' js' h = absurd (unlike (cc))
+read_block f reads d above [] js ws' js' h = cc
 read_block f reads d above (name ∷ ws) js ws' js' h =
     let (on, (head, met)) = left_behind (heading ws) _ _ ws' js' h in
     let (o, (c, e)) = met_heading ws on head in
@@ -137,16 +137,16 @@ read_child f reads (Some Close) d own w ws js ws' js' e h = close_ends d own w w
 read_child f reads (Some End) d own w ws js ws' js' e h =
     let (on, (met, next)) = left_behind (site ws) js _ ws' js' h in
     site_first d own w ws on js ws' js' e met (reads d own on js ws' js' next)
-read_child f reads (Some Joint) zero own w ws js ws' js' e h = absurd (unlike (cc))
+read_child f reads (Some Joint) zero own w ws js ws' js' e h = cc
 read_child f reads (Some Joint) (suc d) own w ws js ws' js' e h =
     let (on, (met, (first, next))) = left_then (block (children f d) own ws js) _ ws' js' h in
     joint_first d own w ws js on met ws' js' e (read_block f reads d own ws js on met first) (reads (suc d) own on met ws' js' next)
-read_child f reads None d own w ws js ws' js' e h = absurd (unlike (cc))
+read_child f reads None d own w ws js ws' js' e h = cc
 
 read_inside : (f : ℕ) → ReadsIn f
 unfolding children child child_of same_bytes
-read_inside zero d own ws js ws' js' h = absurd (unlike (cc))
-read_inside (suc f) d own [] js ws' js' h = absurd (unlike (cc))
+read_inside zero d own ws js ws' js' h = cc
+read_inside (suc f) d own [] js ws' js' h = cc
 read_inside (suc f) d own (w ∷ ws) js ws' js' h = read_child f (read_inside f) (child_of w) d own w ws js ws' js' (begins w) h
 
 -- THE ROOT BLOCKS, where they were read
@@ -192,7 +192,7 @@ module _ (ws start : Words) (js : Joints) (on : Words) (met : Joints) (ws' : Wor
 
 pub read_roots : (f : ℕ) (ws : Words) (js : Joints) (ws' : Words) (js' : Joints) → roots f ws js ≡ left ws' js' → ReadRoots ws js ws' js'
 unfolding roots
-read_roots zero ws js ws' js' h = absurd (unlike (cc))
+read_roots zero ws js ws' js' h = cc
 read_roots (suc f) ws js ws' js' h =
     let (on, (met, (first, next))) = left_then (root_block (suc f) ws js) _ ws' js' h in
     let (start, (e, b)) = read_root (suc f) ws js on met first in

@@ -45,7 +45,7 @@ module _ {s t : List ℕ} (js : Joints) (h : (keyword root_word (words s) ≡ so
   shorter =
       let fewer = ap {B = ℕ} length (met_keyword root_word (words s) (words t) h.0) in
       let short = follows_length h.1 in
-      case (eq_ne (length t) (length s)) (λ e. absurd (let same = follows_same h.1 e in let z = ap (λ (l : List ℕ). length (words l)) same in omega arith)) (λ ne. omega arith)
+      case (eq_ne (length t) (length s)) (λ e. let same = follows_same h.1 e in let z = ap (λ (l : List ℕ). length (words l)) same in omega arith) (λ ne. omega arith)
 
   pub root_shorter : Shorter s r
   root_shorter = of r a

@@ -1,5 +1,6 @@
 // Reads the hierarchy that a text begins with. For the crates above, which prove what they require. Each function takes a text and answers what
-// is left of it, as those for words and headings do; a struct of a text and the joints would be a second way to read.
+// is left of it, by which they are chained with `?`, as those for words and headings; a struct of the text and the joints would need a field set
+// where an answer is handed on now.
 #![tactic(auto)]
 
 mod blocks;

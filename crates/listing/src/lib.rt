@@ -19,7 +19,7 @@ use refusals::Refusal;
 use sheet::Rankings;
 use writing::Writer;
 
-// No pairing, with the phase.
+// No pairing, with the phase. This and `write_refused` are each one call, with a word and a number of its own.
 fn write_none(phase: Phase, out: &mut Writer<'_>)
     requires { HasRoom out.old (none_text (phase_number phase)) }
     ensures { Puts out.old (none_text (phase_number phase)) out.new }

@@ -43,7 +43,8 @@ impl Listing<'_> {
         }
     }
 
-    // The pairs by lower joint. With `write_alone` no one function of a closure: its contract would be longer than both loops.
+    // The pairs by lower joint. The loop of `write_alone` is the same, but one function for both would take a closure, and its contract would be
+    // longer than both loops.
     fn write_pairs(&self, out: &mut Writer<'_>)
         requires { HasRoom out.old (joined (length self.now.partners.now) (pair_part (label_at self.now.opened.bytes.now self.now.opened.labels) self.now.partners.now)) }
         ensures { Puts out.old (joined (length self.now.partners.now) (pair_part (label_at self.now.opened.bytes.now self.now.opened.labels) self.now.partners.now)) out.new }

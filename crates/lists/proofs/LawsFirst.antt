@@ -28,5 +28,5 @@ first_inside n l h =
     case (lt_ge 0 (best_band n l))
     (λ some. let j : (j : ℕ) × (j < n) × (get_or l j 0 ≡ best_band n l) = best_attained n l some in some_passes n test j.0 j.1 (eq-eqb _ _ j.2))
     (λ none. case (lt_ge 0 (get_or l 0 0))
-    (λ listed. let best = best_least n l 0 h listed in absurd (omega arith))
+    (λ listed. let best = best_least n l 0 h listed in omega arith)
     (λ empty. some_passes n test 0 h (eq-eqb (get_or l 0 0) (best_band n l) (omega arith))))

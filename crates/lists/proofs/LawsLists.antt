@@ -1,9 +1,10 @@
 -- A list's best band as a minimum and its worst as a maximum, as chains of iterators tell them.
-use Rattle.std.proofs.Common.{◌≡◌, refl, ◌∙◌, ap, List, [], ◌∷◌, ◌++◌, ℕ, zero, suc, ◌≤◌, ◌<◌, ltb, length, get_or, take, add-one, arith}
+use Rattle.std.proofs.Common.{◌≡◌, refl, ◌∙◌, ap, List, [], ◌∷◌, ◌++◌, ℕ, zero, suc, ◌≤◌, ◌<◌, ltb, length, get_or, take, arith}
 use Rattle.std.specs.Prelude.{min, max}
 use Rattle.std.specs.List.{reduce, fold, filter}
 use Rattle.std.specs.Option.{unwrap_or}
-use Rattle.std.proofs.lemmas.List.{take_more, append-nil}
+use lib.Seq.{take-suc}
+use Rattle.std.proofs.lemmas.List.{append-nil}
 use Rattle.std.proofs.lemmas.List.Elements.{filter-append}
 use Rattle.std.proofs.lemmas.List.Sums.{fold-append}
 use mathlib.Core.Logic.{◌⊎◌, inl, inr}
@@ -19,8 +20,7 @@ pub worst_taken : (n : ℕ) (l : List ℕ) → n ≤ length l → unwrap_or (red
 unfolding worst_band
 worst_taken zero l h = refl
 worst_taken (suc i) l h =
-    let e : take (suc i) l ≡ take i l ++ (get_or l i 0 ∷ []) = rw add-one at (take_more l i 0 (omega arith)) in
-    rw e (max_more (take i l) (get_or l i 0) ∙ ap (λ (w : ℕ). max w (get_or l i 0)) (worst_taken i l (omega arith)))
+    rw (take-suc l i 0 (omega arith)) (max_more (take i l) (get_or l i 0) ∙ ap (λ (w : ℕ). max w (get_or l i 0)) (worst_taken i l (omega arith)))
 
 abbrev best_of : List ℕ → ℕ
 best_of xs = unwrap_or (reduce min (filter (λ b. ltb 0 b) xs)) 0
@@ -36,7 +36,7 @@ none_or_some [] = inl refl
 none_or_some (x ∷ xs) = case (lt_ge 0 x) (λ b. rw (lt-ltb 0 x b) (inr (still_some x xs b))) (λ z. rw (le-ltb 0 x z) (none_or_some xs))
 
 min_more : (xs : List ℕ) (y : ℕ) → 0 < unwrap_or (reduce min xs) 0 → unwrap_or (reduce min (xs ++ (y ∷ []))) 0 ≡ min (unwrap_or (reduce min xs) 0) y
-min_more [] y h = absurd (omega arith)
+min_more [] y h = omega arith
 min_more (x ∷ xs) y h = fold-append min x xs (y ∷ [])
 
 lesser : (k b : ℕ) → 0 < k → 0 < b → min k b ≡ better_band k b
@@ -61,5 +61,4 @@ pub best_taken : (n : ℕ) (l : List ℕ) → n ≤ length l → best_of (take n
 unfolding best_band
 best_taken zero l h = refl
 best_taken (suc i) l h =
-    let e : take (suc i) l ≡ take i l ++ (get_or l i 0 ∷ []) = rw add-one at (take_more l i 0 (omega arith)) in
-    rw e (best_more (take i l) (get_or l i 0) ∙ ap (λ (w : ℕ). better_band w (get_or l i 0)) (best_taken i l (omega arith)))
+    rw (take-suc l i 0 (omega arith)) (best_more (take i l) (get_or l i 0) ∙ ap (λ (w : ℕ). better_band w (get_or l i 0)) (best_taken i l (omega arith)))

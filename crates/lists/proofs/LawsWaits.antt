@@ -1,9 +1,9 @@
 -- Whether a joint waits, by one walk of its list: is anything on it, and is its last band there?
-use Rattle.std.proofs.Common.{◌≡◌, refl, sym, List, [], ◌∷◌, ◌++◌, ℕ, zero, suc, ◌+◌, ◌≤◌, Bool, true, false, ◌||◌, ltb, length, get_or, take, add-one, arith}
+use Rattle.std.proofs.Common.{◌≡◌, refl, sym, List, [], ◌∷◌, ℕ, zero, suc, ◌+◌, ◌≤◌, Bool, true, false, ◌||◌, ltb, length, get_or, take, add-one, arith}
 use mathlib.Core.Bool.{not, or-true, or-false}
 use lib.Dec.{leb, eqb}
 use Rattle.std.specs.List.{fold}
-use Rattle.std.proofs.lemmas.List.{take_more}
+use lib.Seq.{take-suc}
 use Rattle.std.proofs.lemmas.List.Sums.{fold-append}
 use borrow.Author.Tests.{eq-eqb, lt-ltb, le-ltb, le-leb, lt-leb}
 use Rattle.base.specs.Below.{any_below}
@@ -33,8 +33,7 @@ reached n k l = any_below n (λ b. eqb (get_or l b 0) k)
 
 walk_more : (i k : ℕ) (l : List ℕ) → suc i ≤ length l → walked (suc i) k l ≡ walk k (walked i k l) (get_or l i 0)
 walk_more i k l h =
-    let e : take (suc i) l ≡ take i l ++ (get_or l i 0 ∷ []) = rw add-one at (take_more l i 0 (omega arith)) in
-    rw e (fold-append (walk k) (false, false) (take i l) (get_or l i 0 ∷ []))
+    rw (take-suc l i 0 (omega arith)) (fold-append (walk k) (false, false) (take i l) (get_or l i 0 ∷ []))
 
 walk_listed : (n k : ℕ) (l : List ℕ) → n ≤ length l → (walked n k l).0 ≡ leb 1 (list_length n l)
 walk_listed zero k l h = rw (count_zero (is_listed l))

@@ -1,5 +1,5 @@
-// What one preference list says: a row of bands, 0 for a joint that is not on the list. The count of joints goes beside the row, which is no slice
-// of so many: the definitions have both, and each call would cut one.
+// What one preference list says: a row of bands, 0 for a joint that is not on the list. A row goes with the count of joints, as in the
+// definitions, and not as a slice of so many joints, which each caller would have to cut.
 ghost use Rattle.std.specs.Prelude.{◌≡◌, ℕ, Bool, get_or};
 ghost use Rattle.base.specs.Below.{count_below};
 ghost use Rattle.roommates.specs.Lists.{list_length, best_band, worst_band, band_size, first_on};

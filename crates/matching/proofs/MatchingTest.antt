@@ -14,7 +14,7 @@ use Rattle.matching.specs.Matchings.{partner, partner_of, is_alone, is_paired, i
 use Rattle.matching.specs.Plain.{Paired}
 use Rattle.matching.specs.Claims.{IsMatchingMeans}
 use Rattle.base.specs.Below.{all_below}
-use Rattle.base.proofs.Cases.{case, both_ways, unlike}
+use Rattle.base.proofs.Cases.{case, both_ways}
 use Rattle.base.proofs.AllBelow.{all_true, all_pass}
 use Rattle.base.proofs.Tests.{and_true, or_true, or_right}
 
@@ -50,13 +50,13 @@ is_matching_means n t m = (
 -- the partner of a paired joint
 pub partner_some : (m : List ℕ) (a : ℕ) {p : ℕ} → Some p ≡ partner_of m a → (p ≡ partner m a) × (partner m a ≢ 255)
 partner_some m a e = case (both_ways (is_alone m a))
-    (λ t. let no : _ = rw t at e in absurd (unlike cc))
+    (λ t. let no : _ = rw t at e in cc)
     (λ f. let same : _ = rw f at e in (cc, eqb-false _ _ f))
 
 pub partner_none : (m : List ℕ) (a : ℕ) → None ≡ partner_of m a → partner m a ≡ 255
 partner_none m a e = case (both_ways (is_alone m a))
     (λ t. eqb-true _ _ t)
-    (λ f. let no : _ = rw f at e in absurd (unlike cc))
+    (λ f. let no : _ = rw f at e in cc)
 
 -- what the functions that are handed a matching need of it
 module _ (n : ℕ) (t : List (List ℕ)) (m : List ℕ) (matching : is_matching n t m ≡ true) where

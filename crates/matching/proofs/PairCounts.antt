@@ -14,7 +14,7 @@ use Rattle.base.specs.Below.{count_below, sum_below}
 use Rattle.base.proofs.Cases.{case, lt_ge}
 use Rattle.base.proofs.Tests.{and_true, never, not_so}
 use Rattle.base.proofs.Chains.{count_taken}
-use Rattle.base.proofs.Places.{get_d_inside}
+use Rattle.std.proofs.lemmas.List.{get_or_default}
 use Rattle.base.proofs.CountBelow.{count_same, ones, count_sum, count_most, count_grows, count_rest, count_one, counted, two_counted, Two}
 use Rattle.base.proofs.Faults.{when_most}
 use Rattle.base.proofs.SumBelow.{sum_same, sum_even, half_sum}
@@ -33,7 +33,7 @@ unfolding paired_joints
 paired_by m =
     let n = length m in
     let all : count_by (λ p. not (eqb p alone)) (take n m) ≡ count_below n (λ a. not (eqb (get_or m a 0) alone)) = count_taken n _ m (omega arith) in
-    let there = λ (a : ℕ) (l : a < n). ap (λ p. not (eqb p alone)) (get_d_inside m a 0 alone l) in
+    let there = λ (a : ℕ) (l : a < n). ap (λ p. not (eqb p alone)) (get_or_default m a 0 alone l) in
     rw take-length at all ∙ count_same n _ _ there
 
 pub paired_few : (m : List ℕ) → paired_joints m ≤ length m

@@ -33,7 +33,7 @@ impl Offered<'_> {
         requires { (length self.now.pairing.now ≡ self.now.joints.count) × (a < self.now.joints.count) }
         ensures { result ≡ is_placed self.now.joints.count self.now.bands.now self.now.pairing.now a }
     {
-        // No `is_none_or`: tried, and no proof closes, since of a closure that has `self` its clauses say nothing where there is a partner.
+        // No `is_none_or`: tried, and no proof closes, since for a closure that has `self` the check knows nothing of what it answers.
         match partner(self.pairing, a) {
             None => true,
             Some(p) => self.is_paired(a, p),

@@ -52,7 +52,7 @@ pub fn make_move(working: &mut Working, x: usize) -> Result<(), Refusal>
     match working.stage {
         Stage::Proposing => move_one(working, x),
         Stage::Cutting => move_two(working, x),
-        // an arm for each, and no or-pattern: its proof would go by the same three cases, and wrong programs that move one end alone are tried
+        // an arm for each end: one for all would be proved by the same three cases, and the edits change one end alone
         Stage::NoneOne => Err(Refusal::ChoiceLeftOver),
         Stage::NoneTwo => Err(Refusal::ChoiceLeftOver),
         Stage::Paired => Err(Refusal::ChoiceLeftOver),

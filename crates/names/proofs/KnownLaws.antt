@@ -8,7 +8,7 @@ use lib.ListN.{length, length-map}
 use lib.Dec.{eqb}
 use lib.Pointwise.{pointwise}
 use Rattle.std.specs.List.{list_any}
-use Rattle.base.proofs.Cases.{case, both_ways, unlike}
+use Rattle.base.proofs.Cases.{case, both_ways}
 use Rattle.base.proofs.Chains.{any_told}
 use Rattle.base.proofs.Faults.{fault_passes, last_fault}
 use Rattle.words.proofs.MetLaws.{pointwise_same}
@@ -34,7 +34,7 @@ module _ (w : List ℕ) where
 
   some_has : (joints : List NamedJoint) → list_any has_it joints ≡ true
       → (i : ℕ) × (i < length (kept_names joints)) × (is_named (kept_names joints) w i ≡ true)
-  some_has [] e = absurd (unlike (cc e))
+  some_has [] e = cc
   some_has (joint ∷ joints) e =
       case (both_ways (has_it joint))
       (λ t. (0, omega arith, sym (pointwise_same joint.name.now w) ∙ t))
@@ -44,9 +44,9 @@ module _ (w : List ℕ) where
       → is_named (kept_names joints) w i ≡ false
   none_has [] e i l = absurd (omega arith)
   none_has (joint ∷ joints) e zero l =
-      case (both_ways (has_it joint)) (λ t. absurd (unlike (cc (e, t)))) (λ f. sym (pointwise_same joint.name.now w) ∙ f)
+      case (both_ways (has_it joint)) (λ t. cc) (λ f. sym (pointwise_same joint.name.now w) ∙ f)
   none_has (joint ∷ joints) e (suc i) l =
-      case (both_ways (has_it joint)) (λ t. absurd (unlike (cc (e, t)))) (λ f. none_has joints (rw f at e) i (omega arith))
+      case (both_ways (has_it joint)) (λ t. cc) (λ f. none_has joints (rw f at e) i (omega arith))
 
   pub known_is : (joints : List NamedJoint) → list_any has_it joints ≡ is_known (kept_names joints) w
   unfolding is_known

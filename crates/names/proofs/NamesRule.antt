@@ -66,18 +66,15 @@ fault_number names w h =
     twenty false f = absurd (f refl)
 
 -- NAMES
-length_first : (names : Words) (i : ℕ) → i ≤ length names → length (take i names) ≡ i
-length_first names i l = length-take-le i names l
-
 good_is : (names : Words) → names_fault names ≡ 0 → GoodNames names
 unfolding names_fault
 good_is names h =
     let each : (i : ℕ) → i < length names → _ = λ i l. fresh (take i names) (name_of names i) (below_none (length names) (fault_at names) h i l) in
     record {
-      few = case (lt_ge 128 (length names)) (λ l. let (few, rest) = each 128 l in let e = length_first names 128 (omega arith) in absurd (omega arith)) (λ g. g);
+      few = case (lt_ge 128 (length names)) (λ l. let (few, rest) = each 128 l in let e = length-take-le 128 names (omega arith) in omega arith) (λ g. g);
       each = λ i l. (each i l).1.0;
       differ = λ i j k l e.
-          let n = length_first names i (omega arith) in
+          let n = length-take-le i names (omega arith) in
           (each i l).1.1 j (omega arith) (e ∙ sym (get_or-take i names j [] k));
     }
 
@@ -85,7 +82,7 @@ is_good : (names : Words) → GoodNames names → names_fault names ≡ 0
 unfolding names_fault
 is_good names g =
     none_below (length names) (fault_at names)
-    (λ i l. let n = length_first names i (omega arith) in
+    (λ i l. let n = length-take-le i names (omega arith) in
     let few = g.few in
     fresh_fault (take i names) (name_of names i) (omega arith) (g.each i l)
     (λ j k e. let k' : j < i = omega arith in g.differ i j k' l (e ∙ get_or-take i names j [] k')))
@@ -97,7 +94,7 @@ names_rule names = (good_is names, is_good names)
 first_names : (names : Words) (i : ℕ) → i ≤ length names → names_fault (take i names) ≡ fault_below i (fault_at names)
 unfolding names_fault
 first_names names i l =
-    rw (length_first names i l)
+    rw (length-take-le i names l)
     (below_same i _ _ (λ j k. rw (take-take j i names (omega arith), get_or-take i names j [] k) refl))
 
 -- THE NUMBERS
@@ -117,7 +114,7 @@ refused : (names : Words) → (names_fault names ≡ 0 → ⊥) → Refused name
 refused names h =
     let (i, (l, (z, e))) = below_first (length names) (fault_at names) (λ z. h (faults_are names ∙ z)) in
     let number = faults_are names ∙ e in
-    let n = length_first names i (omega arith) in
+    let n = length-take-le i names (omega arith) in
     let good = good_is (take i names) (first_names names i (omega arith) ∙ z) in
     let few = good.few in
     record {
@@ -139,21 +136,21 @@ first_fault_lem names i l good bad =
 too_many : (names : Words) → TooMany names → names_fault names ≡ 2
 too_many names t =
     let l = t.1 in
-    let n = length_first names 128 (omega arith) in
+    let n = length-take-le 128 names (omega arith) in
     let bad : fault_at names 128 ≡ 0 → ⊥ = λ z. let f = (fresh (take 128 names) (name_of names 128) z).0 in omega arith in
     first_fault_lem names 128 l t.0 bad
-    ∙ case (fault_number (take 128 names) (name_of names 128) bad) (λ r. r.1) (λ r. let f = r.0 in absurd (omega arith))
+    ∙ case (fault_number (take 128 names) (name_of names 128) bad) (λ r. r.1) (λ r. let f = r.0 in omega arith)
 
 first_bad : (names : Words) (i : ℕ) → FirstBad names i → names_fault names ≡ 20
 first_bad names i r =
     let l = r.inside in
     let few = r.few in
-    let n = length_first names i (omega arith) in
+    let n = length-take-le i names (omega arith) in
     let none = sym (first_names names i (omega arith)) ∙ is_good (take i names) r.earlier in
     let bad : fault_at names i ≡ 0 → ⊥ =
     λ z. r.bad (good_is (take (i + 1) names) (first_names names (i + 1) (omega arith) ∙ below_next i _ none z)) in
     first_fault_lem names i l r.earlier bad
-    ∙ case (fault_number (take i names) (name_of names i) bad) (λ q. let f = q.0 in absurd (omega arith)) (λ q. q.1)
+    ∙ case (fault_number (take i names) (name_of names i) bad) (λ q. let f = q.0 in omega arith) (λ q. q.1)
 
 pub names_refused : NamesRefused
 names_refused names = record {

@@ -9,6 +9,7 @@ use matching::Offered;
 use refusals::Refusal;
 use sections::Joints;
 
+// The square is this call's own, which `Offered` lends; so follow has these lines too, and no function does them for both.
 // Checks an offered pairing against a sheet: a refusal of the sheet, then of what is no pairing, then the lowest blocking pair's number, or
 // none where the pairing holds.
 pub fn check(sheet: &[u8], pairing: &[u8]) -> Result<Option<u32>, Refusal>

@@ -31,7 +31,8 @@ fn number(refusal: Refusal) -> u32
     u32::from(u8::from(refusal))
 }
 
-// An answer of 32 bits.
+// An answer of 32 bits. That each number fits its place goes as a clause, here and in the modules: the calls' numbers have 32 bits, and it is their
+// definitions that bound them.
 fn packed(number: u32, verdict: u32, count: u32) -> u32
     requires { (number < 256) × ((verdict < 256) × (count < 65536)) }
     ensures { result ≡ packed number verdict count }

@@ -8,7 +8,8 @@ use calls::End;
 use refusals::Refusal;
 use tariff::Cents;
 
-// With `settled_code` no one function of a type: a sum needs 64 bits, and a clause would have to say of each type what number its value is.
+// Settle's answer is put together apart: it has 32 bits and a sum needs 64, so one function for both would be generic over the number's type, and
+// longer than this one.
 fn quoted_code(answer: Result<End<Cents>, Refusal>) -> u64
     requires { (k : ℕ) → answer ≡ Ok (End.Paired k) → k ≤ 64 * 4294967295 }
     ensures { result ≡ quoted_code answer }

@@ -8,7 +8,7 @@ use native.Mathlib.Omega.{arith}
 use lib.ListN.{length, take}
 use Rattle.base.specs.Claims.{First}
 use Rattle.base.specs.Faults.{first_fault}
-use Rattle.base.proofs.Cases.{case, unlike}
+use Rattle.base.proofs.Cases.{case}
 use Rattle.base.proofs.Faults.{first_answered, fault_stops, fault_passes, last_fault}
 use Rattle.sheet.specs.Format.{joints, rank_count, count_start, entries_of}
 use Rattle.sheet.specs.Refusals.{sheet_fault}
@@ -58,7 +58,7 @@ count_bytes_lem n t rest = refl
 -- none is known by its verdict
 none_one_only : (v : Stage) (c : ℕ) → (v ≡ NoneOne) ⊎ (v ≡ Paired) → listed_as v c ≡ None ↔ (v ≡ NoneOne)
 none_one_only v c says = (
-  λ h. case says (λ e. e) (λ e. let i : Some c ≡ None = ap (λ (x : Stage). listed_as x c) (sym e) ∙ h in absurd (unlike cc)),
+  λ h. case says (λ e. e) (λ e. let i : Some c ≡ None = ap (λ (x : Stage). listed_as x c) (sym e) ∙ h in cc),
   λ e. ap (λ (x : Stage). listed_as x c) e,
 )
 
@@ -124,7 +124,7 @@ module _ (s cs out : List ℕ) where
   shorten_none h =
       let e = shorten_lists_as None h in
       unpaired_unwritten fault (ends_on s cs) _ out
-      (λ i. let j : Some (entries_on s cs) ≡ None = ap (λ (x : Stage). listed_as x (entries_on s cs)) (sym i) ∙ e in unlike cc)
+      (λ i. let j : Some (entries_on s cs) ≡ None = ap (λ (x : Stage). listed_as x (entries_on s cs)) (sym i) ∙ e in cc)
 
   -- a call that returns lists: where phase one ended, and what is written
   module _ (k : ℕ) (h : shorten_answer s cs out ≡ Ok (Some k)) where

@@ -65,6 +65,7 @@ fn propose_all(
     }
 }
 
+// By index, since of what is written through `iter_mut` only the length is known.
 fn receive_all(n: Joints, list: &[u8; 128], k: u8, received: &mut [u8; 128])
     ensures { received.new ≡ receive_all n.count list.now k received.old }
 {

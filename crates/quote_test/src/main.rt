@@ -13,12 +13,12 @@ ghost use Rattle.std.specs.Prelude.{◌<◌};
 use arrayvec::ArrayVec;
 use calls::{End, Phase};
 use counts::Counts;
-use pairs::sheet_of_pairs;
+use pairs::Pairs;
 use quote::quote;
 use rules::{Call, Work};
 use samples::{next, put, varied_sheet};
 use std::io;
-use tariffs::{Form, Tariff, drawn_tariff, is_in_form};
+use tariffs::{Form, Terms, drawn_tariff};
 use walks::drawn_walk;
 
 // Quotes of a number of pairs, eight for each; and of random sheets.
@@ -31,8 +31,8 @@ const ROUNDS: u32 = 6144;
 pub type Answer = Result<End<u64>, u8>;
 
 // What quote answers.
-fn quoted(sheet: &[u8], choices: &[u8], tariff: &[u8], rebate: u32) -> Answer {
-    quote(sheet, choices, tariff, rebate).map_err(u8::from)
+fn quoted(sheet: &[u8], choices: &[u8], terms: &Terms) -> Answer {
+    quote(sheet, choices, &terms.tariff, terms.rebate).map_err(u8::from)
 }
 
 // The rules' phase as the library's. No From, since both are types of other crates, which stand apart; settle_test needs the other way only.
@@ -45,16 +45,13 @@ fn phase_of(phase: rules::Phase) -> Phase {
 
 // What is due of an accepted sheet whose working ends so, or has a refused record: 16, 17, then that. None of one that ends in lists, or
 // not at all, as settle's never does: no answer agrees with it.
-fn due(tariff: &Tariff, rebate: u32, working: Option<Result<rules::End, u8>>) -> Option<Answer> {
-    if !is_in_form(tariff) {
-        return Some(Err(16));
-    }
-    if 10000 < rebate {
-        return Some(Err(17));
+fn due(terms: &Terms, working: Option<Result<rules::End, u8>>) -> Option<Answer> {
+    if let Some(number) = terms.refused() {
+        return Some(Err(number));
     }
     match working? {
         Ok(rules::End::Paired(pairs)) => {
-            let sum = prices::payable(tariff, pairs % 65, rebate);
+            let sum = prices::payable(terms, Pairs::new(pairs));
             Some(Ok(End::Paired(sum)))
         }
         Ok(rules::End::None(phase)) => Some(Ok(End::None(phase_of(phase)))),
@@ -67,19 +64,20 @@ fn due(tariff: &Tariff, rebate: u32, working: Option<Result<rules::End, u8>>) ->
 fn try_number(counts: &mut Counts, round: u32)
     requires { round < 520 }
 {
-    // By `as`, since usize has no From<u32>; try_from would have an error that cannot be.
-    let sheet = sheet_of_pairs((round / 8) as usize);
+    let sheet = Pairs::new(round / 8).sheet();
     let x = next(7 * round + 3);
-    let rebate = next(x) % 10001;
     let form = if round % 8 == 0 {
         Form::Highest
     } else {
         Form::Whole
     };
-    let tariff = drawn_tariff(x, form);
-    let said = quoted(&sheet, b"", &tariff, rebate);
+    let terms = Terms {
+        tariff: drawn_tariff(x, form),
+        rebate: next(x) % 10001,
+    };
+    let said = quoted(&sheet, b"", &terms);
     counts.pairs.note(said);
-    let expected = due(&tariff, rebate, Some(Ok(rules::End::Paired(round / 8))));
+    let expected = due(&terms, Some(Ok(rules::End::Paired(round / 8))));
     counts.comparisons.compare(
         "the quote of a number of pairs",
         round,
@@ -133,14 +131,16 @@ fn try_round(counts: &mut Counts, round: u32) {
     if let Some(damage) = damage {
         damage.put_in(&mut sheet.bytes);
     }
-    let tariff = drawn_tariff(c, Form::drawn(a));
-    let rebate = tariffs::rebate(next(c));
-    let said = quoted(&sheet.bytes, &walk.list, &tariff, rebate);
+    let terms = Terms {
+        tariff: drawn_tariff(c, Form::drawn(a)),
+        rebate: tariffs::rebate(next(c)),
+    };
+    let said = quoted(&sheet.bytes, &walk.list, &terms);
     counts.sheets.note(said);
     counts.note_kind(said);
     let expected = match damage {
         Some(damage) => Some(Err(damage.refused())),
-        None => due(&tariff, rebate, walk.end),
+        None => due(&terms, walk.end),
     };
     counts.comparisons.compare("the quote of a random sheet", round, Some(said) == expected);
 }

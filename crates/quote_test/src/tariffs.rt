@@ -1,22 +1,39 @@
 // Tariffs and rebates from the generator, whole and damaged.
-ghost use Rattle.std.specs.Prelude.{◌<◌, ◌≤◌};
+ghost use Rattle.std.specs.Prelude.{◌<◌};
 
 use arrayvec::ArrayVec;
-use samples::next;
+use samples::{next, put};
 
-// A byte for the count of steps, and seventeen steps, one more than a tariff may have.
-type Bytes = [u8; 86];
-
+// A byte for the count of steps, seventeen steps, one more than a tariff may have, and no byte more.
 pub type Tariff = ArrayVec<u8, 86>;
 
+type Steps = ArrayVec<[u8; 5], 17>;
+
+// What a quote is asked for by: a tariff and a rebate, whole or not.
+#[derive(Drop)]
+pub struct Terms {
+    pub tariff: Tariff,
+    pub rebate: u32,
+}
+
+impl Terms {
+    // What refuses them: 16 of the tariff comes before 17 of the rebate.
+    pub fn refused(&self) -> Option<u8> {
+        if !is_in_form(&self.tariff) {
+            return Some(16);
+        }
+        (10000 < self.rebate).then_some(17)
+    }
+}
+
 // The next step begins at pair 1, if it is the first, or 1 to `spread` % 12 + 1 pairs after the one before it.
-fn beginning(before: Option<u8>, x: u32, spread: u32) -> u8 {
+fn beginning(before: Option<&[u8; 5]>, x: u32, spread: u32) -> u8 {
     let Some(before) = before else {
         return 1;
     };
     let apart = x % (spread % 12 + 1) % 12 + 1;
     // By `as`, since a number below 256 fits; try_from would have an error that cannot be.
-    ((u32::from(before) + apart) % 256) as u8
+    ((u32::from(before[0]) + apart) % 256) as u8
 }
 
 // A step whose price has two bytes from each of two numbers of the generator, the low ones first.
@@ -26,32 +43,23 @@ fn step(beginning: u8, low: u32, high: u32) -> [u8; 5] {
     [beginning, a, b, c, d]
 }
 
-// Half of the prices are below 65,536.
-fn drawn_steps(seed: u32) -> Bytes {
+// So many steps, of which there is room for seventeen. Half of the prices are below 65,536.
+fn drawn_steps(seed: u32, count: u8) -> Steps {
     let mut x = next(seed);
-    let mut before = None;
-    let mut bytes = [0; 86];
-    for j in 0..17 {
+    let mut steps = Steps::new();
+    for _ in 0..count {
         let a = next(x);
         let b = next(a);
         x = next(b);
-        let first = beginning(before, a, seed);
-        before = Some(first);
-        let drawn = step(first, b, if a % 2 == 0 { x } else { 0 });
-        bytes[5 * j + 1..5 * j + 6].copy_from_slice(&drawn);
+        let first = beginning(steps.last(), a, seed);
+        let _ = steps.try_push(step(first, b, if a % 2 == 0 { x } else { 0 }));
     }
-    bytes
-}
-
-// Where the step before the last begins; pair 2, where there is one step only.
-fn before_last(bytes: &Bytes, count: usize) -> u8
-    requires { (1 ≤ count) × (count ≤ 16) }
-{
-    if count == 1 { 2 } else { bytes[5 * count - 9] }
+    steps
 }
 
 // A tariff of 1 to 16 steps as it should be, or: empty; no step; seventeen steps; a byte too few; a byte too many; any number for a step to
 // begin at; any byte anywhere; the last step from where the one before it begins; any count of steps; one step at the highest price.
+// Whole is a case, and no None, since a form need not be wrong: that of the highest price is right too.
 #[derive(Clone, Copy)]
 pub enum Form {
     Whole,
@@ -85,52 +93,78 @@ impl Form {
         }
     }
 
-    // How many bytes the tariff has, where it is drawn with so many steps.
-    fn size(self, count: usize) -> usize
-        requires { count ≤ 16 }
-    {
-        let size = 5 * count + 1;
+    // How many steps the tariff has.
+    fn count(self, seed: u32) -> u8 {
         match self {
-            Form::Empty => 0,
-            Form::NoStep => 1,
-            Form::SeventeenSteps => 86,
-            Form::Short => size - 1,
-            Form::Long => size + 1,
-            Form::Highest => 6,
-            _ => size,
+            Form::NoStep => 0,
+            Form::SeventeenSteps => 17,
+            Form::Highest => 1,
+            _ => (seed % 65537 / 12 % 16) as u8 + 1,
         }
     }
 
-    // The bytes that are not as they were drawn, by another number of the generator.
-    fn put_in(self, bytes: &mut Bytes, count: usize, x: usize)
-        requires { (1 ≤ count) × (count ≤ 16) }
-    {
-        let byte = (x / 256 % 256) as u8;
+    // The steps that are not as they were drawn, by another number of the generator. Where there is one step only, pair 2 is before it.
+    fn put_in_steps(self, steps: &mut [[u8; 5]], x: u32) {
         match self {
-            Form::NoStep => bytes[0] = 0,
-            Form::SeventeenSteps => bytes[0] = 17,
-            Form::AnyBeginning => bytes[5 * (x % 16) + 1] = byte,
-            Form::AnyByte => bytes[x % 81] = byte,
-            Form::Repeated => bytes[5 * count - 4] = before_last(bytes, count),
-            Form::AnyCount => bytes[0] = (x % 16) as u8 + 1,
-            Form::Highest => bytes[..6].copy_from_slice(&[1, 1, 255, 255, 255, 255]),
+            Form::AnyBeginning => {
+                if let Some(step) = steps.get_mut((x % 16) as usize) {
+                    step[0] = any_byte(x);
+                }
+            }
+            Form::Repeated => {
+                let before = steps.iter().rev().nth(1).map_or(2, |step| step[0]);
+                if let Some(last) = steps.last_mut() {
+                    last[0] = before;
+                }
+            }
+            Form::Highest => steps.fill([1, 255, 255, 255, 255]),
+            _ => {}
+        }
+    }
+
+    // The bytes that are not those of the steps and their count, by the same number.
+    fn put_in_bytes(self, tariff: &mut Tariff, x: u32) {
+        match self {
+            Form::Empty => tariff.clear(),
+            Form::Short => {
+                let _ = tariff.pop();
+            }
+            Form::Long => put(tariff, &[any_byte(x)]),
+            Form::AnyByte => {
+                if let Some(byte) = tariff.get_mut((x % 81) as usize) {
+                    *byte = any_byte(x);
+                }
+            }
+            Form::AnyCount => {
+                if let Some(count) = tariff.first_mut() {
+                    *count = (x % 16) as u8 + 1;
+                }
+            }
             _ => {}
         }
     }
 }
 
+// The second byte of a number of the generator.
+fn any_byte(x: u32) -> u8 {
+    x.to_le_bytes()[1]
+}
+
+// A tariff of this form: its count, its steps, and both put together.
 pub fn drawn_tariff(seed: u32, form: Form) -> Tariff {
-    let count = (seed % 65537 / 12 % 16) as usize + 1;
-    let mut bytes = drawn_steps(seed);
-    bytes[0] = count as u8;
-    form.put_in(&mut bytes, count, next(seed) as usize);
-    let mut tariff = ArrayVec::from(bytes);
-    tariff.truncate(form.size(count));
+    let x = next(seed);
+    let count = form.count(seed);
+    let mut steps = drawn_steps(seed, count);
+    form.put_in_steps(&mut steps, x);
+    let mut tariff = Tariff::new();
+    put(&mut tariff, &[count]);
+    put(&mut tariff, steps.as_flattened());
+    form.put_in_bytes(&mut tariff, x);
     tariff
 }
 
 // Has a tariff the form that it should have?
-pub fn is_in_form(tariff: &[u8]) -> bool {
+fn is_in_form(tariff: &[u8]) -> bool {
     let Some((count, rest)) = tariff.split_first() else {
         return false;
     };

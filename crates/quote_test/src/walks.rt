@@ -62,6 +62,7 @@ fn ending(list: &Choices, bytes: &[u8], end: Option<Result<End, u8>>) -> Walk {
 // Up to 11 steps, and what comes last: of sixteen, a byte more; a byte more after a refused record; no kind; a mark that is not set, to
 // return to; no mark, to return to and to set; a step of any number up to 9, and of no joint; a return to the start; or nothing. Where
 // nothing is refused, what becomes of the working is what becomes of it without choices.
+// No enum for what comes last: it is drawn and used here alone, so each case would stand in three lists, and here it stands in one.
 pub fn drawn_walk(start: &Work, seed: u32) -> Walk {
     let path = steps(start, seed, seed / 16 % 12);
     let list = &path.list;

@@ -5,7 +5,7 @@ use mathlib.Core.List.{List, [], ◌∷◌, ◌++◌}
 use Prim.Native.Nat.{ℕ}
 use lib.Dec.{eqb}
 use borrow.Author.Tests.{ne_eqb, eq-eqb, eqb-false}
-use Rattle.base.proofs.Cases.{case, both_ways, eq_ne, unlike}
+use Rattle.base.proofs.Cases.{case, both_ways, eq_ne}
 use Rattle.roommates.specs.Lists.{Square}
 use Rattle.roommates.specs.PhaseOne.{Work}
 use Rattle.roommates.specs.Moves.{begun, Outcome, outcome, move, moves}
@@ -82,7 +82,7 @@ module _ (whole : Bool) (n : ℕ) where
 
     start_replayed : Replayed (started whole n t) (stand [] (λ i. []))
     unfolding moves
-    start_replayed = record { now_is = refl; at_is = λ m w h. let e : unset ≡ saved w = h in absurd (unlike cc) }
+    start_replayed = record { now_is = refl; at_is = λ m w h. let e : unset ≡ saved w = h in cc }
 
     -- so the steps standing after records that were followed take a fresh working to where they stand
     pub followed_replayed : {u : Marked} {rs : List Record} → Followed whole n (started whole n t) rs u

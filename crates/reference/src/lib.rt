@@ -9,7 +9,7 @@ use samples::Bands;
 // A byte for the partner of each joint.
 pub type Pairing = [u8; 8];
 
-// Of an unpaired joint.
+// Of an unpaired joint: no None, since a pairing here is the lent bytes as the documents have them.
 pub const NONE: u8 = 255;
 
 // How many matchings 8 joints have: 1, 28, 210, 420 and 105 of 0 to 4 pairs.
@@ -20,7 +20,8 @@ pub type Matchings = ArrayVec<Pairing, MATCHINGS>;
 // b × (b − 1) ÷ 2 for each b.
 const FIRST: [u8; 8] = [0, 0, 1, 3, 6, 10, 15, 21];
 
-// The number of the pair of a and b.
+// The number of the pair of a and b. A joint is a plain number, since a loop's number is an index as it stands, and a type would have to be
+// made of it in each turn. By `as`, since a number below 8 fits; try_from would have an error that cannot be.
 pub fn pair_number(a: usize, b: usize) -> u32
     requires { (a < b) × (b < 8) }
 {

@@ -19,7 +19,7 @@ fn partner_on(n: Joints, row: &[u8; 128]) -> u8
         .map_or(NO_JOINT, |b| b as u8)
 }
 
-// The pairing goes to the first n bytes.
+// The pairing goes to the first n bytes; by index, since of what is written through `iter_mut` only the length is known.
 pub fn write_partners(n: Joints, bands: &[[u8; 128]; 128], out: &mut [u8])
     requires { n.count ≤ length out.old }
     ensures { out.new ≡ pairing_of n.count bands.now ++ drop n.count out.old }

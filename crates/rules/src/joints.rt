@@ -1,4 +1,5 @@
-// Sets of up to 8 joints, a bit for each, and tables of them: the set in row a has each b that stands with a.
+// Sets of up to 8 joints, a bit for each, and tables of them: the set in row a has each b that stands with a. A joint is a plain number, since
+// a loop's number is an index as it stands, and a type would have to be made of it in each turn.
 
 ghost use Rattle.std.specs.Prelude.{◌<◌, IfSome};
 
@@ -26,7 +27,7 @@ pub fn lowest(set: Set) -> Option<usize>
     (0..8).find(|a| has(set, *a))
 }
 
-// A joint of a set: the first from x on, in a ring.
+// A joint of a set: the first from x on, in a ring. By `as`, since a number below 8 fits; try_from would have an error that cannot be.
 pub fn any_of(set: Set, x: u32) -> u8 {
     let from = x % 8;
     ((set.rotate_right(from).trailing_zeros() + from) % 8) as u8

@@ -193,7 +193,8 @@ impl Work {
         matches!(self.stage, Stage::Refused(_))
     }
 
-    // The partner bytes of 8 joints, 255 for unpaired.
+    // The partner bytes of 8 joints, 255 for unpaired: no Options, since these are the written bytes as the documents have them.
+    // By `as`, since a number below 8 fits; try_from would have an error that cannot be.
     pub fn partners(&self) -> [u8; 8] {
         self.listed
             .map(|list| lowest(list).map_or(255, |b| (b % 8) as u8))

@@ -5,7 +5,8 @@ ghost use Rattle.std.specs.Prelude.{◌<◌, ◌≤◌};
 
 use arrayvec::ArrayVec;
 
-// How many joints there are: at most 8, which bands and pairings have room for.
+// How many joints there are: at most 8, which bands and pairings have room for. The test programs stand apart from the library, so that no one
+// type with a const parameter serves both.
 #[derive(Clone, Copy)]
 pub struct Joints {
     pub count: usize,
@@ -36,6 +37,7 @@ impl Style {
     fn band(self, x: u32, step: u8) -> u8
         requires { step < 8 }
     {
+        // By `as`, here and below, since each number fits and usize has no From<u32>; try_from would have an error that cannot be.
         let spread = (x / 4 % (self.width % 64 + 1) % 64) as u8;
         spread + self.turn.min(8) * step + 1
     }
@@ -114,9 +116,8 @@ pub const FILL: u8 = 170;
 // A filled buffer with these bytes at its start.
 pub fn filled<const ROOM: usize>(bytes: &[u8]) -> [u8; ROOM] {
     let mut out = [FILL; ROOM];
-    for (to, byte) in out.iter_mut().zip(bytes) {
-        *to = *byte;
-    }
+    let size = bytes.len().min(ROOM);
+    out[..size].copy_from_slice(&bytes[..size]);
     out
 }
 
@@ -158,10 +159,8 @@ pub fn drawn_sheet(n: Joints, seed: u32, style: Style) -> Sheet {
     sheet_of(n, bands_of(n, seed, style))
 }
 
-// From many ties to few, from lists that lean nowhere to lists that lean to the next joint.
-const WIDTHS: [u32; 4] = [2, 5, 11, 59];
-
-const TURNS: [u8; 4] = [0, 2, 4, 8];
+// Widths and turns: from many ties to few, from lists that lean nowhere to lists that lean to the next joint.
+const LEANINGS: [(u32, u8); 4] = [(2, 0), (5, 2), (11, 4), (59, 8)];
 
 // 0 to 8 joints, then 2 to 8.
 fn joints_of(round: u32) -> Joints {
@@ -173,17 +172,17 @@ fn joints_of(round: u32) -> Joints {
 
 // The sheet of a round, which settles its number of joints and its style.
 pub fn varied_sheet(round: u32, seed: u32) -> Sheet {
-    let k = (round / 48 % 4) as usize;
+    let (width, turn) = LEANINGS[(round / 48 % 4) as usize];
     let style = Style {
         skip: round / 16 % 3,
         lone: if round / 192 % 2 == 0 { 2 } else { 0 },
-        width: WIDTHS[k],
-        turn: TURNS[k],
+        width,
+        turn,
     };
     drawn_sheet(joints_of(round), seed, style)
 }
 
-// The count and the labels of up to 129 joints.
+// The count and the labels of up to 129 joints. A bound and no type: callers have a number, and both functions would take it out again at once.
 pub fn long_labels(n: usize) -> LongSheet
     requires { n ≤ 129 }
 {

@@ -53,6 +53,7 @@ fn label_bad(labels: &[[u8; LABEL_WIDTH]], i: usize) -> bool
     !label_ok(&labels[i]) || repeats_any(labels, i)
 }
 
+// A chain of the library's already, as `some_bad` of parents and `some_misplaced` of tariff.
 fn some_label_bad(labels: &[[u8; LABEL_WIDTH]]) -> bool
     ensures { result ≡ any_below (length labels.now) (label_bad (concat labels.now)) }
 {

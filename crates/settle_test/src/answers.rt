@@ -28,6 +28,7 @@ fn shortened(sheet: &[u8], choices: &[u8], out: &mut [u8]) -> Result<End, u8> {
     }
 }
 
+// The library's counts as the rules'. No From, since both are types of other crates, as at `phase_of`.
 fn counted(call: Call, sheet: &[u8], choices: &[u8]) -> Counts {
     let counts = count_working(sheet, choices, call == Call::Settle);
     Counts {

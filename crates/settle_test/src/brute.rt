@@ -7,6 +7,7 @@ pub fn is_stable(bands: &Bands, m: &Pairing) -> bool {
 }
 
 pub fn count_stable(bands: &Bands, rows: &Matchings) -> u32 {
+    // By `as`, since a number of matchings fits; try_from would have an error that cannot be.
     rows.iter().filter(|m| is_stable(bands, m)).count() as u32
 }
 

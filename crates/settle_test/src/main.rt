@@ -48,6 +48,7 @@ fn main(rt: HostRuntime) -> io::Result<()> {
     let rows = matchings();
     let mut counts = Counts::default();
     try_rows(&mut counts);
+    // By `as`, since a number of matchings fits; try_from would have an error that cannot be.
     counts.matchings = rows.len() as u32;
     counts.sheets = ROUNDS;
     for round in 0..ROUNDS {

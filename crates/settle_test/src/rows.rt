@@ -8,13 +8,14 @@ use replay::Choices;
 use rules::{Call, End};
 use samples::{FILL, Joints, filled, no_entries, sheet_of};
 
-// Settle on n joints with no entries: what it answers, and its buffer.
+// Settle on n joints with no entries: what it answers, and its buffer. Up to 129 joints, as `no_entries` has it.
 fn row_n(counts: &mut Counts, n: usize, due: Result<End, u8>, left: [u8; 256])
     requires { n ≤ 129 }
 {
     let mut out = [FILL; 256];
     let said = answered(Call::Settle, &no_entries(n), b"", &mut out);
     let comparisons = &mut counts.comparisons;
+    // By `as`, since a number up to 129 fits; try_from would have an error that cannot be.
     comparisons.compare("the answer of row n", n as u32, said == due);
     comparisons.compare("the buffer of row n", n as u32, out == left);
 }

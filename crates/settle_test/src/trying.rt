@@ -162,6 +162,7 @@ impl Case {
 
 // A joint, or n, or 255.
 fn any_byte(x: u32, n: Joints) -> u8 {
+    // By `as`, here and below, since each number fits and usize has no From<u32>; try_from would have an error that cannot be.
     let k = (x % 65537) as usize % (n.count + 2);
     if n.count < k { 255 } else { k as u8 }
 }

@@ -4,8 +4,6 @@
 //   -15     15 zeros
 //   *3      three labels that differ
 //   @6      six entries of joints that list all others, two to a band
-ghost use Rattle.std.specs.Prelude.{◌<◌};
-
 use arrayvec::ArrayVec;
 use samples::{put, put_labels};
 
@@ -17,16 +15,16 @@ pub fn number_of(text: &str) -> Option<usize> {
     text.parse().ok()
 }
 
-fn digit(byte: u8) -> u32
-    ensures { result < 16 }
-{
-    char::from(byte).to_digit(16).map_or(0, |digit| digit % 16)
+// The byte of two hexadecimal digits, 0 for what are none.
+fn byte_of(pair: &[u8]) -> u8 {
+    let digits = str::from_utf8(pair).unwrap_or("");
+    u8::from_str_radix(digits, 16).unwrap_or(0)
 }
 
 fn put_hex(sheet: &mut Sheet, digits: &[u8]) {
     let (pairs, _) = digits.as_chunks::<2>();
-    for [high, low] in pairs {
-        put(sheet, &[(16 * digit(*high) + digit(*low)) as u8]);
+    for pair in pairs {
+        put(sheet, &[byte_of(pair)]);
     }
 }
 

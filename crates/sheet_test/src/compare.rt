@@ -91,7 +91,7 @@ fn check_holds(sheet: &[u8], bands: &Bands, claim: &str) -> bool {
     }
 }
 
-// What a sheet that does not read as its line says was read as.
+// What a sheet that does not read as its line says was read as. No Option, since this is the error of a Result, and is written by Display.
 #[derive(Clone, Copy)]
 pub enum Differs {
     Accepted,

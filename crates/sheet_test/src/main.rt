@@ -32,6 +32,7 @@ fn agrees(rt: &impl Print, line: &str) -> std::io::Result<bool> {
 fn main(rt: HostRuntime) -> std::io::Result<()> {
     let mut space = io::large_buffer();
     let size = io::read_full(0, &mut space);
+    // A loop and no chain, since to write a case may fail: try_fold over the two counts, as a pair in a Result, would be no plainer.
     let (mut agree, mut differ) = (0u32, 0u32);
     for line in str::from_utf8(&space[..size]).unwrap_or("").lines() {
         let count = if agrees(&rt, line)? {

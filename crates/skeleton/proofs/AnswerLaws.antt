@@ -11,7 +11,7 @@ use borrow.Author.Tests.{eq-eqb, ne_eqb, lt-ltb, le-ltb}
 use Rattle.std.specs.Prelude.{Option, Some, None, Result, Ok, Err}
 use Rattle.base.specs.Below.{first_below}
 use Rattle.base.specs.Faults.{first_fault}
-use Rattle.base.proofs.Cases.{case, lt_ge, unlike}
+use Rattle.base.proofs.Cases.{case, lt_ge}
 use Rattle.base.proofs.CountBelow.{count_one}
 use Rattle.base.proofs.Faults.{fault_stops, fault_passes, last_fault}
 use Rattle.base.proofs.Lowest.{lowest_passes}
@@ -106,7 +106,7 @@ module _ (n : ℕ) (t : List (List ℕ)) (own m : List ℕ) where
 
     -- as many parents as joints, each lower
     one_each : IsSection n own → OneEach n own
-    one_each section = case section (λ e. let no : count ∷ part ≡ [] = sym is ∙ e in absurd (unlike cc)) (λ o. o)
+    one_each section = case section (λ e. let no : count ∷ part ≡ [] = sym is ∙ e in cc) (λ o. o)
 
     pub parents_lower : IsSection n own → (i : ℕ) → parent_of part i ≢ 255 → parent_of part i < i
     parents_lower section = rw part_is at (parent_lower (parents_in own) (one_each section).lower)

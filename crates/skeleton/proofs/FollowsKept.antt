@@ -9,7 +9,7 @@ use lib.ListN.{length}
 use borrow.Author.Tests.{lt-ltb, le-ltb, ltb-true}
 use Rattle.base.specs.Claims.{First}
 use Rattle.base.specs.Faults.{when, first_fault}
-use Rattle.base.proofs.Cases.{case, eq_ne, unlike}
+use Rattle.base.proofs.Cases.{case, eq_ne}
 use Rattle.base.proofs.Faults.{first_answered, first_none, first_holds, fault_here, fault_behind, fault_stops, fault_passes, last_fault, when_holds, unless_none, unless_is, unless_other}
 use Rattle.base.proofs.Tests.{never, not_so}
 use Rattle.parents.specs.Parents.{parent_of, is_there}
@@ -57,7 +57,7 @@ module _ (ps m : List ℕ) where
 
   followed_all : followed ps m ≡ None ↔ (stray_count ps m ≡ 0)
   followed_all = (
-    λ h. case (eq_ne (stray_count ps m) 0) (λ e. e) (λ ne. let i : Some _ ≡ None = sym (counted_stray ne) ∙ h in absurd (unlike cc)),
+    λ h. case (eq_ne (stray_count ps m) 0) (λ e. e) (λ ne. let i : Some _ ≡ None = sym (counted_stray ne) ∙ h in cc),
     none_stray,
   )
 
@@ -65,7 +65,7 @@ module _ (ps m : List ℕ) where
   unfolding pairs_in lowest_in
   followed_astray k l = (
     λ h. case (eq_ne (stray_count ps m) 0)
-        (λ e. let i : None ≡ Some (astray_by k l) = sym (none_stray e) ∙ h in absurd (unlike cc))
+        (λ e. let i : None ≡ Some (astray_by k l) = sym (none_stray e) ∙ h in cc)
         (λ ne.
         let i : Some (astray_by (stray_count ps m) (stray_number ps m)) ≡ Some (astray_by k l) = sym (counted_stray ne) ∙ h in
         let e : stray_count ps m ≡ k = ap pairs_in i in

@@ -9,7 +9,7 @@ use crate::Strays;
 use matching::{pair_number, partner};
 use parents::parent;
 
-// A byte of each kind for each joint; a parent is lower.
+// A byte of each kind for each joint, in two slices, as they are lent; a parent is lower.
 #[derive(Clone, Copy)]
 pub(crate) struct Posed<'a> {
     pub parents: &'a [u8],
@@ -39,7 +39,7 @@ impl Posed<'_> {
         requires { b < length self.now.pairing.now }
         ensures { result ≡ is_stray self.now.parents.now self.now.pairing.now b }
     {
-        // No `is_some_and`: tried, and no proof closes, since of a closure that has `self` its clauses say nothing where there is a partner.
+        // No `is_some_and`: tried, and no proof closes, since for a closure that has `self` the check knows nothing of what it answers.
         match partner(self.pairing, b) {
             Some(a) => a < b && !self.follows(a, b),
             None => false,

@@ -14,9 +14,8 @@ const ROUNDS: u32 = 6144;
 const STRIDE: usize = 309;
 
 // What is wrong with a third section: it is left out, has another count than n, is a byte short, counts more parents than there are, has a
-// byte after it, counts fewer than there are, a joint has itself as its parent, or a higher joint. `Nothing` is a case and no None, since each
-// method has something to say of it: what a whole section is.
-#[derive(Clone, Copy, PartialEq, Eq)]
+// byte after it, counts fewer than there are, a joint has itself as its parent, or a higher joint.
+#[derive(Clone, Copy)]
 enum Damage {
     LeftOut,
     OtherCount,
@@ -26,22 +25,21 @@ enum Damage {
     CountsFewer,
     OwnParent,
     HigherParent,
-    Nothing,
 }
 
 impl Damage {
     // Of sixteen sections each is wrong with one.
-    fn drawn(x: u32) -> Damage {
+    fn drawn(x: u32) -> Option<Damage> {
         match x % 16 {
-            0 => Damage::LeftOut,
-            1 => Damage::OtherCount,
-            2 => Damage::Short,
-            3 => Damage::CountsMore,
-            4 => Damage::Long,
-            5 => Damage::CountsFewer,
-            6 => Damage::OwnParent,
-            7 => Damage::HigherParent,
-            _ => Damage::Nothing,
+            0 => Some(Damage::LeftOut),
+            1 => Some(Damage::OtherCount),
+            2 => Some(Damage::Short),
+            3 => Some(Damage::CountsMore),
+            4 => Some(Damage::Long),
+            5 => Some(Damage::CountsFewer),
+            6 => Some(Damage::OwnParent),
+            7 => Some(Damage::HigherParent),
+            _ => None,
         }
     }
 
@@ -73,15 +71,15 @@ impl Damage {
     fn refused(self, n: Joints) -> Option<u8> {
         match self {
             Damage::LeftOut | Damage::OtherCount => Some(18),
-            Damage::Short => Some(if n.count == 0 { 18 } else { 1 }),
-            Damage::CountsMore => Some(1),
+            Damage::Short if n.count == 0 => Some(18),
+            Damage::Short | Damage::CountsMore => Some(1),
             Damage::Long | Damage::CountsFewer => Some(8),
-            Damage::OwnParent | Damage::HigherParent if n.count != 0 => Some(18),
-            _ => None,
+            Damage::OwnParent | Damage::HigherParent if n.count == 0 => None,
+            Damage::OwnParent | Damage::HigherParent => Some(18),
         }
     }
 
-    // Its parents.
+    // Its parents. By `as`, since numbers below 256 fit and usize has no From<u32>; try_from would have an error that cannot be.
     fn parents(self, mut parents: Parents, n: Joints, x: usize) -> Parents {
         if n.count == 0 {
             return parents;
@@ -94,12 +92,20 @@ impl Damage {
         }
         parents
     }
+
+    // The section that is so damaged.
+    fn third(self, n: Joints, x: u32) -> Third {
+        let count = self.count(n, x as usize);
+        let parents = self.parents(nth_parents(x, n), n, next(x) as usize);
+        Third::new(count as u8, parents, self.size(n, count))
+    }
 }
 
-fn drawn_third(n: Joints, damage: Damage, x: u32) -> Third {
-    let count = damage.count(n, x as usize);
-    let parents = damage.parents(nth_parents(x, n), n, next(x) as usize);
-    Third::new(count as u8, parents, damage.size(n, count))
+fn drawn_third(n: Joints, damage: Option<Damage>, x: u32) -> Third {
+    match damage {
+        Some(damage) => damage.third(n, x),
+        None => Third::whole(n, nth_parents(x, n)),
+    }
 }
 
 // A matching of the pairs that are listed both ways. The empty one always is.
@@ -112,7 +118,7 @@ fn drawn_matching(rows: &Matchings, bands: &Bands, seed: usize) -> Pairing {
 }
 
 // What is wrong with a pairing: it has a byte more (fewer where there are 8 joints), a byte less (more where there are none), a joint is made
-// unpaired, or has any number up to 8 as its partner, or any two joints are paired and no others. `Nothing` is a case, as that of `Damage` is.
+// unpaired, or has any number up to 8 as its partner, or any two joints are paired and no others.
 #[derive(Clone, Copy)]
 enum Flaw {
     Long,
@@ -120,19 +126,18 @@ enum Flaw {
     Unpaired,
     AnyPartner,
     OnePair,
-    Nothing,
 }
 
 impl Flaw {
     // Of sixteen pairings two have one pair alone, and one has each of the others.
-    fn drawn(x: u32) -> Flaw {
+    fn drawn(x: u32) -> Option<Flaw> {
         match x % 16 {
-            0 => Flaw::Long,
-            1 => Flaw::Short,
-            2 => Flaw::Unpaired,
-            3 => Flaw::AnyPartner,
-            4 | 5 => Flaw::OnePair,
-            _ => Flaw::Nothing,
+            0 => Some(Flaw::Long),
+            1 => Some(Flaw::Short),
+            2 => Some(Flaw::Unpaired),
+            3 => Some(Flaw::AnyPartner),
+            4 | 5 => Some(Flaw::OnePair),
+            _ => None,
         }
     }
 
@@ -180,13 +185,17 @@ fn try_sheet(counts: &mut Counts, rows: &Matchings, round: u32)
     let z = next(y) as usize;
     let damage = Damage::drawn(x);
     let third = drawn_third(n, damage, y);
-    let flaw = Flaw::drawn(y);
-    let m = flaw.partners(drawn_matching(rows, &sheet.bands, z), n, z);
-    let pairing = &m[..flaw.size(n)];
-    let is_bad = pairing.len() != n.count || worth(&sheet.bands, &m).is_err();
-    let refused = damage.refused(n).or(if is_bad { Some(10) } else { None });
+    let matching = drawn_matching(rows, &sheet.bands, z);
+    let (m, size) = match Flaw::drawn(y) {
+        Some(flaw) => (flaw.partners(matching, n, z), flaw.size(n)),
+        None => (matching, n.count),
+    };
+    let is_bad = size != n.count || worth(&sheet.bands, &m).is_err();
+    let refused = damage
+        .and_then(|damage| damage.refused(n))
+        .or(if is_bad { Some(10) } else { None });
     let case = Case::new(Part::Drawn, round, &sheet, &third);
-    try_call(counts, &case, pairing, refused);
+    try_call(counts, &case, &m[..size], refused);
 }
 
 pub fn try_drawn(counts: &mut Counts, rows: &Matchings) {

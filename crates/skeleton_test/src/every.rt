@@ -1,4 +1,5 @@
 // Every skeleton of up to 6 joints that all list each other, with every matching.
+ghost use Rattle.std.specs.Prelude.{◌<◌};
 ghost use Rattle.parents.specs.Claims.{Lower};
 
 use crate::counts::{Counts, Part};
@@ -8,8 +9,12 @@ use reference::{Matchings, NONE};
 use samples::{Joints, Sheet, Style, drawn_sheet};
 use tally::add;
 
-// How many skeletons of n joints there are: n!. A table, since the check does not find that the product of 1 to n fits.
-const SKELETONS: [u16; 7] = [1, 1, 2, 6, 24, 120, 720];
+// How many skeletons of n joints there are: n!. By `as`, since a count below 7 fits; try_from would have an error that cannot be.
+fn skeletons(n: Joints) -> u16
+    requires { n.count < 7 }
+{
+    (1..=n.count as u16).product()
+}
 
 // Joint i has one of the i lower joints as its parent, or none: the digit of v to the base i + 1 says which. In check_test all digits have one
 // base, so the loops stay apart.
@@ -67,7 +72,7 @@ fn full_sheet(n: Joints) -> Sheet {
 fn try_skeleton(counts: &mut Counts, rows: &Matchings, n: Joints, v: u16) {
     let parents = nth_parents(u32::from(v), n);
     let number = 1000 * n.count as u32 + u32::from(v);
-    let third = Third::new(n.count as u8, parents, n.count + 1);
+    let third = Third::whole(n, parents);
     let case = Case::new(Part::Every, number, &full_sheet(n), &third);
     try_depths(counts, number, &parents, n);
     try_matchings(counts, rows, &case, n);
@@ -75,8 +80,9 @@ fn try_skeleton(counts: &mut Counts, rows: &Matchings, n: Joints, v: u16) {
 
 pub fn try_every(counts: &mut Counts, rows: &Matchings) {
     for count in 0..7 {
-        for v in 0..SKELETONS[count] {
-            try_skeleton(counts, rows, Joints { count }, v);
+        let n = Joints { count };
+        for v in 0..skeletons(n) {
+            try_skeleton(counts, rows, n, v);
         }
     }
 }

@@ -11,9 +11,9 @@ use arrayvec::ArrayVec;
 use counts::{Counts, Part};
 use drawn::try_drawn;
 use every::try_every;
-use plain::{Parents, are_level, judged};
+use plain::{Parents, Posed};
 use reference::matchings;
-use samples::{Sheet, put};
+use samples::{Joints, Sheet, put};
 use skeleton::{Strays, follow};
 use std::io;
 
@@ -37,6 +37,11 @@ impl Third {
         put(&mut bytes, &[0]);
         bytes.truncate(size);
         Third { parents, bytes }
+    }
+
+    // The section of n joints with nothing wrong. By `as`, since a count up to 8 fits; try_from would have an error that cannot be.
+    pub fn whole(n: Joints, parents: Parents) -> Third {
+        Third::new(n.count as u8, parents, n.count + 1)
     }
 }
 
@@ -66,22 +71,26 @@ impl Case {
 // One call with a pairing, which may be refused. Where all pairs follow, paired joints have equal depth.
 pub fn try_call(counts: &mut Counts, case: &Case, pairing: &[u8], refused: Option<u8>) {
     let said = follow(&case.bytes, pairing).map_err(u8::from);
+    let posed = Posed {
+        parents: &case.parents,
+        pairing,
+    };
     let due = match refused {
         Some(number) => Err(number),
-        None => Ok(judged(&case.parents, pairing)),
+        None => Ok(posed.judged()),
     };
     counts.note(case.part, said);
     counts
         .comparisons
         .compare("the answer", case.number, said == due);
     if said == Ok(None) {
-        let is_level = are_level(&case.parents, pairing);
         counts
             .comparisons
-            .compare("the depth of a pair", case.number, is_level);
+            .compare("the depth of a pair", case.number, posed.is_level());
     }
 }
 
+// The counts and the matchings go apart through both parts, since a loop over the matchings reads the one and changes the other.
 fn main(rt: HostRuntime) -> io::Result<()> {
     let rows = matchings();
     let mut counts = Counts::default();

@@ -5,47 +5,8 @@ ghost use Rattle.std.specs.Prelude.{◌<◌};
 use reference::pair_number;
 use skeleton::Strays;
 
-// A byte for the parent of each joint, 255 for a root.
+// A byte for the parent of each joint, 255 for a root: no Options, since these are the lent bytes as the documents have them.
 pub type Parents = [u8; 8];
-
-// Both joints are roots; or neither is, and their parents are paired together or are one joint.
-fn follows(parents: &Parents, m: &[u8], a: usize, b: usize) -> bool
-    requires { (a < 8) × (b < 8) }
-{
-    let p = usize::from(parents[a]);
-    let q = usize::from(parents[b]);
-    if p < 8 && q < 8 {
-        m.get(q) == Some(&parents[a]) || p == q
-    } else {
-        8 <= p && 8 <= q
-    }
-}
-
-// With the pair of this number more, which does not follow.
-fn with_stray(found: Option<Strays>, number: u32) -> Strays {
-    match found {
-        None => Strays {
-            pairs: 1,
-            lowest: number,
-        },
-        Some(strays) => Strays {
-            pairs: strays.pairs.wrapping_add(1),
-            lowest: strays.lowest.min(number),
-        },
-    }
-}
-
-// What is due for a matching: None where all pairs follow.
-pub fn judged(parents: &Parents, m: &[u8]) -> Option<Strays> {
-    let mut found = None;
-    for (a, p) in m.iter().enumerate() {
-        let b = usize::from(*p);
-        if a < b && b < 8 && !follows(parents, m, a, b) {
-            found = Some(with_stray(found, pair_number(a, b)));
-        }
-    }
-    found
-}
 
 // How many steps up it is from a joint to its root.
 pub fn climbed(parents: &Parents, joint: usize) -> usize
@@ -61,10 +22,49 @@ pub fn climbed(parents: &Parents, joint: usize) -> usize
     8
 }
 
-// Have paired joints equal depth?
-pub fn are_level(parents: &Parents, m: &[u8]) -> bool {
-    m.iter().enumerate().all(|(a, p)| {
-        let p = usize::from(*p);
-        8 <= a || 8 <= p || climbed(parents, a) == climbed(parents, p)
-    })
+// A pairing of joints that have parents.
+#[derive(Clone, Copy)]
+pub struct Posed<'a> {
+    pub parents: &'a Parents,
+    pub pairing: &'a [u8],
+}
+
+impl Posed<'_> {
+    // Both joints are roots; or neither is, and their parents are paired together or are one joint.
+    fn follows(&self, a: usize, b: usize) -> bool
+        requires { (a < 8) × (b < 8) }
+    {
+        let p = usize::from(self.parents[a]);
+        let q = usize::from(self.parents[b]);
+        if p < 8 && q < 8 {
+            self.pairing.get(q) == Some(&self.parents[a]) || p == q
+        } else {
+            8 <= p && 8 <= q
+        }
+    }
+
+    // The number of a's pair, if a is its lower joint and it does not follow.
+    fn stray(&self, a: usize) -> Option<u32> {
+        let b = usize::from(*self.pairing.get(a)?);
+        if a < b && b < 8 && !self.follows(a, b) {
+            Some(pair_number(a, b))
+        } else {
+            None
+        }
+    }
+
+    // What is due: None where all pairs follow. By `as`, since a count up to 8 fits; try_from would have an error that cannot be.
+    pub fn judged(&self) -> Option<Strays> {
+        let lowest = (0..8).filter_map(|a| self.stray(a)).min()?;
+        let pairs = (0..8).filter_map(|a| self.stray(a)).count() as u32;
+        Some(Strays { pairs, lowest })
+    }
+
+    // Have paired joints equal depth?
+    pub fn is_level(&self) -> bool {
+        self.pairing.iter().enumerate().all(|(a, p)| {
+            let p = usize::from(*p);
+            8 <= a || 8 <= p || climbed(self.parents, a) == climbed(self.parents, p)
+        })
+    }
 }

@@ -82,7 +82,8 @@ impl Working {
         }
     }
 
-    // Phase one runs while somebody waits.
+    // Phase one runs while somebody waits. The stage goes as a clause, here and in the moves: with a type for each stage a move would make a working
+    // anew.
     pub fn in_one(&mut self)
         requires { self.old.stage ≡ Proposing }
         ensures { Becomes self.old (in_one self.old.task.whole self.old.task.joints.count (work_of self.old)) self.new }

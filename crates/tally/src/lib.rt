@@ -48,27 +48,24 @@ impl fmt::Display for Comparisons {
     }
 }
 
-// How many calls were refused by each of these numbers, and by any other.
+// How many calls were refused by each of K numbers, and by any other.
 #[derive(Clone, Copy)]
 pub struct Refusals<const K: usize> {
-    numbers: [u8; K],
-    counts: [u32; K],
+    counts: [(u8, u32); K],
     pub others: u32,
 }
 
 impl<const K: usize> Refusals<K> {
     pub fn new(numbers: [u8; K]) -> Refusals<K> {
         Refusals {
-            numbers,
-            counts: [0; K],
+            counts: numbers.map(|number| (number, 0)),
             others: 0,
         }
     }
 
     pub fn note(&mut self, number: u8) {
-        let place = self.numbers.iter().position(|k| *k == number);
-        match place.and_then(|i| self.counts.get_mut(i)) {
-            Some(count) => add(count, 1),
+        match self.counts.iter_mut().find(|(k, _)| *k == number) {
+            Some((_, count)) => add(count, 1),
             None => add(&mut self.others, 1),
         }
     }
@@ -77,7 +74,7 @@ impl<const K: usize> Refusals<K> {
 // The counts of the numbers, a space before each. The others are left to the program, since not each prints them.
 impl<const K: usize> fmt::Display for Refusals<K> {
     fn fmt<W: fmt::Write>(&self, f: &mut fmt::Formatter<W>) -> fmt::Result {
-        for count in &self.counts {
+        for (_, count) in &self.counts {
             write!(f, " {count}")?;
         }
         Ok(())

@@ -8,7 +8,7 @@ use Prim.Native.Nat.{ℕ, zero, suc, ◌+◌, ◌*◌, ◌-◌, ◌≤◌, ◌<�
 use native.Mathlib.Omega.{arith}
 use lib.ListN.{length, length-append, get_or-eq_default}
 use lib.Dec.{eqb, leb}
-use lib.Pointwise.{pointwise}
+use lib.Pointwise.{pointwise, bytes_decides}
 use borrow.Author.Tests.{le-leb, leb-true}
 use denote.Ref.{Bor}
 use Rattle.std.specs.Prelude.{Some, None, Result, Ok, Err}
@@ -18,11 +18,13 @@ use Rattle.std.specs.List.{list_all}
 use Rattle.std.specs.Result.{result_ok}
 use Rattle.std.specs.Str.{IsUtf8}
 use Rattle.std.specs.Str.Parse.{ParsesUnsigned}
+use Rattle.std.proofs.lemmas.List.{nil_from_length}
 use Rattle.std.proofs.lemmas.Str.{IsUtf8-from_ascii}
 use Rattle.std.proofs.lemmas.Str.Parse.{IsDigitsTest, FoldsDigits, IsNumeralModel, numerals_by_fold, parse_digits, digit_at}
 use Rattle.base.proofs.Cases.{case, lt_ge}
 use Rattle.base.proofs.Tests.{and_true}
 use Rattle.sections.specs.Labels.{same_bytes}
+use Rattle.sections.proofs.LabelLaws.{same_is}
 use Rattle.writing.specs.Claims.{value_after}
 use Rattle.words.specs.Words.{Words, words}
 use Rattle.words.specs.Met.{keyword, any_words, all_digits, counted, NextWord, Follows, Reaches, CountOf}
@@ -39,11 +41,10 @@ pub follows_length : {s r : List ℕ} → Follows s r → length r ≤ length s
 follows_length {s} {r} h = let e = length-append h.0 r in let z = ap length h.1 in omega arith
 
 pub follows_same : {s r : List ℕ} → Follows s r → length r ≡ length s → r ≡ s
-follows_same {s} {r} h l = none h.0 (let e = length-append h.0 r in let z = ap length h.1 in omega arith) h.1
-  where
-    none : (front : List ℕ) → length front ≡ 0 → front ++ r ≡ s → r ≡ s
-    none [] z e = e
-    none (b ∷ front) z e = absurd (omega arith)
+follows_same {s} {r} h l =
+    let e = length-append h.0 r in
+    let z = ap length h.1 in
+    rw (nil_from_length h.0 (omega arith)) at h.1
 
 -- what is met in what follows is met in the text
 pub reaches_from : {s t : List ℕ} (r : found.Option (Bor (List ℕ))) {left all : Option Words} → Follows s t → all ≡ left → Reaches t r left → Reaches s r all
@@ -52,11 +53,7 @@ reaches_from (Some rest) h e m = (e ∙ m.0, follows_on h m.1)
 
 -- the library's comparison of slices, as the grammar's
 pub pointwise_same : (a b : List ℕ) → pointwise eqb a b ≡ same_bytes a b
-unfolding same_bytes
-pointwise_same [] [] = refl
-pointwise_same [] (y ∷ ys) = refl
-pointwise_same (x ∷ xs) [] = refl
-pointwise_same (x ∷ xs) (y ∷ ys) = rw (pointwise_same xs ys) refl
+pointwise_same a b = same_is (pointwise eqb a b) a b (bytes_decides a b)
 
 -- AT THE NEXT WORD: where there is none, and where there is one
 module _ (s : List ℕ) (none_left : words s ≡ []) where

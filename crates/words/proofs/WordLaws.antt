@@ -6,7 +6,7 @@ use Prim.Native.Nat.{ℕ, zero, suc, ◌-◌, ◌≤◌, ◌<◌}
 use native.Mathlib.Omega.{arith}
 use lib.ListN.{length, get_or, take, drop, take-append-drop, length-drop}
 use lib.Seq.{drop-cons}
-use Rattle.std.proofs.lemmas.List.{take_all}
+use Rattle.std.proofs.lemmas.List.{take_all, nil_from_length}
 use Rattle.std.specs.Prelude.{◌≢◌}
 use Rattle.base.proofs.Cases.{case, both_ways}
 use Rattle.words.specs.Words.{is_gap, run, words_after, words}
@@ -64,7 +64,7 @@ pub run_length : (n : ℕ) (s : List ℕ) → n ≤ length s → ((i : ℕ) → 
 unfolding run
 run_length zero [] h g e = refl
 run_length zero (b ∷ s) h g e = rw (e (omega arith)) refl
-run_length (suc n) [] h g e = absurd (omega arith)
+run_length (suc n) [] h g e = omega arith
 run_length (suc n) (b ∷ s) h g e =
     rw (g 0 (omega arith)) (ap suc (run_length n s (omega arith) (λ i l. g (suc i) (omega arith)) (λ l. e (omega arith))))
 
@@ -79,11 +79,7 @@ run_within (b ∷ s) = let h = run_within s in case (both_ways (is_gap b)) (λ e
 
 pub none_left : (s : List ℕ) {t : List ℕ} (n : ℕ) → words s ≡ words (drop n s) → t ≡ drop n s → length t ≡ 0 → words s ≡ []
 unfolding words_after
-none_left s {t} n same e z = same ∙ rw (← e) (empty t z)
-  where
-    empty : (t : List ℕ) → length t ≡ 0 → words t ≡ []
-    empty [] z = refl
-    empty (b ∷ t) z = absurd (omega arith)
+none_left s {t} n same e z = same ∙ rw (← e, nil_from_length t z)
 
 pub next_is : (s : List ℕ) {t word rest : List ℕ} (n k : ℕ) → words s ≡ words (drop n s) → t ≡ drop n s → length t ≢ 0
     → (n < length s → is_gap (get_or s n 0) ≡ false) → k ≡ length (run t) → word ≡ take k t → rest ≡ drop k t → NextWord s word rest

@@ -7,7 +7,7 @@ use Prim.Native.Nat.{ℕ, zero, suc, ◌<◌}
 use native.Mathlib.Omega.{arith}
 use lib.ListN.{length, get_or, drop, take-append-drop}
 use lib.Seq.{drop-append_seam}
-use Rattle.base.proofs.Cases.{case, both_ways, unlike}
+use Rattle.base.proofs.Cases.{case, both_ways}
 use Rattle.words.specs.Words.{Words, is_gap, run, words_after, words}
 use Rattle.words.specs.Claims.{Parted, nothing, gap, word, WordsRule}
 use Rattle.words.proofs.WordLaws.{gap_run, byte_run, gap_after, run_front, words_word}
@@ -22,7 +22,7 @@ Ended s = (s ≡ []) ⊎ (is_gap (get_or s 0 0) ≡ true)
 run_ended : (s : List ℕ) → Ended s → run s ≡ []
 unfolding run
 run_ended [] h = refl
-run_ended (b ∷ s) h = case h (λ e. absurd (unlike (cc))) (λ e. gap_run b s e)
+run_ended (b ∷ s) h = case h (λ e. cc) (λ e. gap_run b s e)
 
 run_joined : (w s : List ℕ) → Unbroken w → Ended s → run (w ++ s) ≡ w
 run_joined [] s u z = run_ended s z

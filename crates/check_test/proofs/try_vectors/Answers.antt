@@ -1,5 +1,5 @@
 -- 7 to the power of a count of joints fits, since 7 to the power 8 does.
-use Rattle.std.proofs.Common.{◌<◌, ◌≤◌, arith}
+use Rattle.std.proofs.Common.{arith}
 use Rattle.std.proofs.Math.Nat.{pow-le-pow_right}
 use Rattle.check_test.proofs.try_vectors.Goals as goal
 

@@ -1,7 +1,8 @@
-use Rattle.std.proofs.Common.{◌≡◌, Err, refl, arith, rules}
+use Rattle.std.proofs.Common.{◌≡◌, ℕ, Err, Some, refl, arith, rules}
+use mathlib.Core.Option.{some}
 use Rattle.refusals.proofs.Numbers.{number_some}
 use Rattle.words.specs.Words.{words}
-use Rattle.words.specs.Met.{Next, Reaches}
+use Rattle.words.specs.Met.{Next, NextWord, Reaches, Follows}
 use Rattle.words.proofs.MetLaws.{next_shorter, follows_length}
 use Rattle.names.specs.declared.joints.NamedJoint.{NamedJoint}
 use Rattle.headings.specs.Headings.{heading, site, child_of}
@@ -12,6 +13,25 @@ use Rattle.hierarchy.proofs.BlockLaws.{block_ended, block_refused, block_broken,
 use Rattle.hierarchy.proofs.Going.{begun}
 use Rattle.hierarchy.proofs.TurnLaws.{turn_ended, turn_close, turn_other, turn_site_broken, turn_site, turn_too_deep, turn_refused, turn_joint}
 use Rattle.hierarchy.proofs.blocks.+block_children.Goals as goal
+use Rattle.hierarchy.proofs.blocks.+block_children.Goals.{block-In_ok-word, block-In_ok-inside, children-In_ok-word, children-In_ok-ok_or}
+
+-- the name of a block
+block_next : (t : ℕ) (c : block-In_ok-word t) → NextWord c.args.text.now c.in_ok-word.word.bytes.now c.in_ok-word.word.rest.now
+block_next t c = some_met (Next c.args.text.now) _ _ c.in_ok-word.ensures.value c.next_word.ensures
+
+-- what is behind its heading
+block_heading : (t : ℕ) (c : block-In_ok-inside t) → let rest = c.in_ok-word.word.rest.now in
+    (heading (words rest) ≡ some (words c.in_ok-inside.inside.now)) × Follows rest c.in_ok-inside.inside.now
+block_heading t c =
+    let rest = c.in_ok-word.word.rest.now in
+    some_met (λ r. Reaches rest r (heading (words rest))) _ _ c.in_ok-inside.ensures.value c.heading.ensures
+
+-- the word that is read of the children, and what it begins
+children_next : (t : ℕ) (c : children-In_ok-word t) → NextWord c.loop-word.rest.now c.in_ok-word.word.bytes.now c.in_ok-word.word.rest.now
+children_next t c = some_met (Next c.loop-word.rest.now) _ _ c.in_ok-word.ensures.value c.next_word.ensures
+
+child_met : (t : ℕ) (c : children-In_ok-ok_or t) → Some c.in_ok-ok_or.field-0 ≡ child_of c.in_ok-word.word.bytes.now
+child_met t c = some_met (λ k. k ≡ child_of c.in_ok-word.word.bytes.now) _ _ c.in_ok-ok_or.ensures.value c.child_of.ensures
 
 pub block-returns-in_err-word : goal.block-returns-in_err-word
 block-returns-in_err-word t c =
@@ -21,7 +41,7 @@ block-returns-in_err-word t c =
 
 pub block-returns-in_err-add : goal.block-returns-in_err-add
 block-returns-in_err-add t c =
-    let next = some_met (Next c.args.text.now) _ _ c.in_ok-word.ensures.value c.next_word.ensures in
+    let next = block_next t (goal.at.block-returns-in_err-add t c).In_ok-word in
     let joint : NamedJoint = record { name = c.in_ok-word.word.bytes; parent = c.args.above } in
     let passed : c.from_residual-in_err-add.result ≡ Err c.in_err-add.field-0.0 = search rules in
     rw passed
@@ -30,7 +50,7 @@ block-returns-in_err-add t c =
 
 pub block-returns-in_err-inside : goal.block-returns-in_err-inside
 block-returns-in_err-inside t c =
-    let next = some_met (Next c.args.text.now) _ _ c.in_ok-word.ensures.value c.next_word.ensures in
+    let next = block_next t (goal.at.block-returns-in_err-inside t c).In_ok-word in
     let joint : NamedJoint = record { name = c.in_ok-word.word.bytes; parent = c.args.above } in
     let rest = c.in_ok-word.word.rest.now in
     let none = none_met (λ r. Reaches rest r (heading (words rest))) _ _ c.in_err-inside.ensures.value c.heading.ensures in
@@ -39,17 +59,17 @@ block-returns-in_err-inside t c =
 
 pub block-children-requires : goal.block-children-requires
 block-children-requires t c =
-    let next = some_met (Next c.args.text.now) _ _ c.in_ok-word.ensures.value c.next_word.ensures in
-    let rest = c.in_ok-word.word.rest.now in
-    let inside = some_met (λ r. Reaches rest r (heading (words rest))) _ _ c.in_ok-inside.ensures.value c.heading.ensures in
+    let at = goal.at.block-children-requires t c in
+    let next = block_next t at.In_ok-word in
+    let inside = block_heading t at.In_ok-inside in
     omega (arith, next_shorter next, follows_length inside.1, c.decreases)
 
 pub block-returns : goal.block-returns
 block-returns t c =
-    let next = some_met (Next c.args.text.now) _ _ c.in_ok-word.ensures.value c.next_word.ensures in
+    let at = goal.at.block-returns t c in
+    let next = block_next t at.In_ok-word in
     let joint : NamedJoint = record { name = c.in_ok-word.word.bytes; parent = c.args.above } in
-    let rest = c.in_ok-word.word.rest.now in
-    let inside = some_met (λ r. Reaches rest r (heading (words rest))) _ _ c.in_ok-inside.ensures.value c.heading.ensures in
+    let inside = block_heading t at.In_ok-inside in
     block_answered _ c.args.joints.now.good joint next c.in_ok-add.ensures.ok c.args.deeper _ c.len-own.ensures.value inside _ _ c.children.ensures
 
 pub children-loop-word-init : goal.children-loop-word-init
@@ -63,14 +83,16 @@ children-returns-in_err-word t c =
 
 pub children-returns-in-Close : goal.children-returns-in-Close
 children-returns-in-Close t c =
-    let next = some_met (Next c.loop-word.rest.now) _ _ c.in_ok-word.ensures.value c.next_word.ensures in
-    let met = some_met (λ k. k ≡ child_of c.in_ok-word.word.bytes.now) _ _ c.in_ok-ok_or.ensures.value c.child_of.ensures in
+    let at = goal.at.children-returns-in-Close t c in
+    let next = children_next t at.In_ok-word in
+    let met = child_met t at.In_ok-ok_or in
     turn_close _ _ c.loop-word.invariant next c.in_ok-word.word.rest refl (rw c.in-Close.is at met)
 
 pub children-returns-in_err-rest-in-End : goal.children-returns-in_err-rest-in-End
 children-returns-in_err-rest-in-End t c =
-    let next = some_met (Next c.loop-word.rest.now) _ _ c.in_ok-word.ensures.value c.next_word.ensures in
-    let met = some_met (λ k. k ≡ child_of c.in_ok-word.word.bytes.now) _ _ c.in_ok-ok_or.ensures.value c.child_of.ensures in
+    let at = goal.at.children-returns-in_err-rest-in-End t c in
+    let next = children_next t at.In_ok-word in
+    let met = child_met t at.In_ok-ok_or in
     let rest = c.in_ok-word.word.rest.now in
     let none = none_met (λ r. Reaches rest r (site (words rest))) _ _ c.in_err-rest-in-End.ensures.value c.site.ensures in
     let passed : c.from_residual-in_err-rest-in-End.result ≡ Err c.in_err-rest-in-End.field-0.0 = search rules in
@@ -78,34 +100,38 @@ children-returns-in_err-rest-in-End t c =
 
 pub children-loop-word-preserved-in-End : goal.children-loop-word-preserved-in-End
 children-loop-word-preserved-in-End t c =
-    let next = some_met (Next c.loop-word.rest.now) _ _ c.in_ok-word.ensures.value c.next_word.ensures in
-    let met = some_met (λ k. k ≡ child_of c.in_ok-word.word.bytes.now) _ _ c.in_ok-ok_or.ensures.value c.child_of.ensures in
+    let at = goal.at.children-loop-word-preserved-in-End t c in
+    let next = children_next t at.In_ok-word in
+    let met = child_met t at.In_ok-ok_or in
     let rest = c.in_ok-word.word.rest.now in
     let behind = some_met (λ r. Reaches rest r (site (words rest))) _ _ c.in_ok-rest-in-End.ensures.value c.site.ensures in
     turn_site _ _ c.loop-word.invariant next (rw c.in-End.is at met) behind
 
 pub children-returns-then-deeper-eq0 : goal.children-returns-then-deeper-eq0
 children-returns-then-deeper-eq0 t c =
-    let next = some_met (Next c.loop-word.rest.now) _ _ c.in_ok-word.ensures.value c.next_word.ensures in
-    let met = some_met (λ k. k ≡ child_of c.in_ok-word.word.bytes.now) _ _ c.in_ok-ok_or.ensures.value c.child_of.ensures in
+    let at = goal.at.children-returns-then-deeper-eq0 t c in
+    let next = children_next t at.In_ok-word in
+    let met = child_met t at.In_ok-ok_or in
     turn_too_deep _ _ c.loop-word.invariant next (rw c.in-Joint.is at met) c.if-deeper-eq0.true
 
 pub children-returns-in_err-rest-in-Joint : goal.children-returns-in_err-rest-in-Joint
 children-returns-in_err-rest-in-Joint t c =
-    let next = some_met (Next c.loop-word.rest.now) _ _ c.in_ok-word.ensures.value c.next_word.ensures in
-    let met = some_met (λ k. k ≡ child_of c.in_ok-word.word.bytes.now) _ _ c.in_ok-ok_or.ensures.value c.child_of.ensures in
+    let at = goal.at.children-returns-in_err-rest-in-Joint t c in
+    let next = children_next t at.In_ok-word in
+    let met = child_met t at.In_ok-ok_or in
     let passed : c.from_residual-in_err-rest-in-Joint.result ≡ Err c.in_err-rest-in-Joint.field-0.0 = search rules in
     rw passed (turn_refused _ _ c.loop-word.invariant next (rw c.in-Joint.is at met) c.if-deeper-eq0.false c.block.new.joints.list.items _ c.in_err-rest-in-Joint.ensures)
 
 pub children-loop-word-preserved : goal.children-loop-word-preserved
 children-loop-word-preserved t c =
-    let next = some_met (Next c.loop-word.rest.now) _ _ c.in_ok-word.ensures.value c.next_word.ensures in
-    let met = some_met (λ k. k ≡ child_of c.in_ok-word.word.bytes.now) _ _ c.in_ok-ok_or.ensures.value c.child_of.ensures in
+    let at = goal.at.children-loop-word-preserved t c in
+    let next = children_next t at.In_ok-word in
+    let met = child_met t at.In_ok-ok_or in
     turn_joint _ _ c.loop-word.invariant next (rw c.in-Joint.is at met) c.if-deeper-eq0.false _ c.in_ok-rest-in-Joint.rest c.in_ok-rest-in-Joint.ensures c.block.new.joints.good
 
 pub children-returns-in_err-ok_or : goal.children-returns-in_err-ok_or
 children-returns-in_err-ok_or t c =
-    let next = some_met (Next c.loop-word.rest.now) _ _ c.in_ok-word.ensures.value c.next_word.ensures in
+    let next = children_next t (goal.at.children-returns-in_err-ok_or t c).In_ok-word in
     let none = none_met (λ k. k ≡ child_of c.in_ok-word.word.bytes.now) _ _ c.in_err-ok_or.ensures.value c.child_of.ensures in
     let passed : c.from_residual-in_err-ok_or.result ≡ Err c.in_err-ok_or.field-0.0 = search rules in
     rw (passed, none.1) (turn_other _ _ c.loop-word.invariant next none.0)
