@@ -18,6 +18,7 @@ pub enum Phase {
     Two = 2,
 }
 
+// Beside `From<Refusal>`, of the same form: each enum has its own numbers and definition.
 impl From<Phase> for u8 {
     ghost from_gives = { λ phase number. number ≡ phase_number phase };
 

@@ -43,7 +43,7 @@ fn none_emptied(n: Joints, aside: &[u8; 128], bands: &[[u8; 128]; 128]) -> bool
 }
 
 // A trial at v: whether it is kept, as one is that empties no list. Its lists are then left, else they stay. In place and no `Option`
-// of lists, which would lay 16 KB more on the stack.
+// of lists, which would lay 16 KB more on the stack. Who is set aside goes beside the lists, since the one is read and the others written.
 fn try_at(n: Joints, aside: &[u8; 128], lists: &mut [[u8; 128]; 128], v: usize) -> bool
     requires { v < 128 }
     ensures value { result ≡ none_emptied n.count aside.now (trial n.count lists.old v) }

@@ -4,7 +4,7 @@ use mathlib.Core.Bool.{true, false, ◌&&◌, ◌||◌, not}
 use mathlib.Core.List.{List}
 use mathlib.Core.Logic.{inl, inr, ◌≢◌}
 use Prim.Native.Nat.{ℕ, zero, suc, ◌-◌, ◌≤◌, ◌<◌}
-use native.Mathlib.Numerals.{add-one, sub-one}
+use native.Mathlib.Numerals.{sub-one}
 use native.Mathlib.Omega.{arith}
 use lib.Dec.{eqb, ltb, leb}
 use borrow.Author.Tests.{ltb-true, ltb-false, leb-false, eqb-true, eqb-false, not-false, lt-ltb, le-ltb, lt-leb, eq-eqb, ne_eqb}
@@ -13,8 +13,8 @@ use Rattle.sections.specs.Entries.{entry_in, after, outside, no_band, misplaced,
 use Rattle.sections.specs.Claims.{Sound, Before, EntriesRule}
 use Rattle.base.proofs.Cases.{case, eq_ne}
 use Rattle.base.proofs.Tests.{or_false, and_true, or_true}
-use Rattle.base.specs.Faults.{first_fault, fault_below}
-use Rattle.base.proofs.Faults.{first_none, when_none, below_none, below_zero, below_next}
+use Rattle.base.specs.Faults.{first_fault}
+use Rattle.base.proofs.Faults.{first_none, when_none, below_none, none_below}
 
 -- an entry that is not the first is compared with the one before it
 pub misplaced_later : (part : List ℕ) (j : ℕ) → (j ≡ 0 → ⊥) → not (after (entry_in part j) (entry_in part (j - 1))) ≡ misplaced part j
@@ -98,10 +98,6 @@ in_place part (suc j) h = rw (before_after (entry_in part j) (entry_in part (suc
 good_entry : (n : ℕ) (part : List ℕ) (j : ℕ) → Sound n (entry_in part j) → misplaced part j ≡ false → entry_fault n part j ≡ 0
 unfolding entry_fault first_fault
 good_entry n part j s h = let (here, banded) = sound_inside n (entry_in part j) s in rw (here, banded, h)
-
-none_below : (m : ℕ) (fault : ℕ → ℕ) → ((j : ℕ) → j < m → fault j ≡ 0) → fault_below m fault ≡ 0
-none_below zero fault h = below_zero fault
-none_below (suc m) fault h = rw (← add-one m) (below_next m fault (none_below m fault (λ j l. h j (omega arith))) (h m (omega arith)))
 
 pub entries_rule : EntriesRule
 entries_rule m n part = (

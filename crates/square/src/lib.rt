@@ -1,4 +1,5 @@
-// The square of bands, filled from entries: a place has a band only where two joints list each other.
+// The square of bands, filled from entries: a place has a band only where two joints list each other. An array of arrays, the form that document
+// 01 names for it.
 #![tactic(auto)]
 
 ghost use Rattle.std.specs.Prelude.{◌≡◌, ℕ, Bool};
