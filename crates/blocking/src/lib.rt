@@ -25,7 +25,7 @@ impl Matched<'_> {
         ensures { result ≡ welcomes self.now.offered.bands.now self.now.offered.pairing.now a b }
     {
         let Offered { bands, pairing, .. } = self.offered;
-        // a match, as in `is_placed` of matching, and for its reason
+        // No `is_none_or`: tried, and no proof closes, since the closure would have to be shown that a partner is an index in range.
         match partner(pairing, a) {
             None => true,
             Some(p) => bands[a][b] <= bands[a][p],

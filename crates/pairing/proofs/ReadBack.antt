@@ -5,7 +5,7 @@ use Rattle.base.proofs.Cases.{case, lt_ge}
 use Rattle.refusals.specs.declared.Refusal.{Refusal}
 use Rattle.refusals.specs.Numbers.{number_of, by_number, fault_of}
 use Rattle.refusals.proofs.Numbers.{refusal_back}
-use Rattle.pairing.specs.Claims.{PartsReadBack, CountsReadBack, QuoteNumbers, FollowNumbers, ImportNumbers}
+use Rattle.pairing.specs.Claims.{PartsReadBack, CountsReadBack, SettleNumbers, ShortenNumbers, CheckNumbers, QuoteNumbers, FollowNumbers, ImportNumbers}
 
 -- a refusal's number is a byte
 number_byte : (r : Refusal) → number_of r < 256
@@ -25,6 +25,15 @@ beside (Some r) = number_byte r
 
 pub counts_read_back : CountsReadBack
 counts_read_back c g = let h = beside c.refusal in (omega arith, omega arith, omega arith)
+
+pub settle_numbers : SettleNumbers
+settle_numbers = record { refused = λ r. omega arith; none_one = refl; none_two = refl; paired = λ count. omega arith }
+
+pub shorten_numbers : ShortenNumbers
+shorten_numbers = record { refused = λ r. omega arith; none = refl; lists = λ count. omega arith }
+
+pub check_numbers : CheckNumbers
+check_numbers = record { refused = λ r. omega arith; holds = refl; blocked = λ pair. omega arith }
 
 pub quote_numbers : QuoteNumbers
 quote_numbers = record { refused = λ r. omega arith; none_one = refl; none_two = refl; payable = λ sum. omega arith }

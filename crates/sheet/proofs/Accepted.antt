@@ -13,10 +13,12 @@ use Rattle.sections.specs.Claims.{GoodLabels}
 use Rattle.sections.proofs.LabelRule.{labels_rule}
 use Rattle.parents.specs.Parents.{extent_fault, parents_fault}
 use Rattle.parents.proofs.SectionRule.{section_rule}
+use Rattle.sheet.specs.declared.Parts.{Parts}
 use Rattle.sheet.specs.Format.{joints, labels_part, rank_count, rank_start, rankings_part, rank_end, third}
 use Rattle.sheet.specs.Refusals.{sheet_faults, sheet_fault, extents_fault}
 use Rattle.sheet.specs.Claims.{AcceptedParents}
 use Rattle.sheet.proofs.FaultLists.{split_faults}
+use Rattle.sheet.proofs.ReadAs.{ReadAs}
 
 -- a sheet whose sections lie where they should
 pub record Extents (s : List ℕ) : Type 0 where
@@ -78,3 +80,7 @@ accepted s h =
 
 pub accepted_parents : AcceptedParents
 accepted_parents s h = let a = accepted s h in (section_rule (joints s) (third s)).0 (a.third_extent, a.parents)
+
+-- the joints that it is read with are few
+pub few_read : (s : List ℕ) (parts : Parts) → ReadAs s parts → parts.joints ≤ 128
+few_read s parts r = let few = (accepted s r.faultless).few_joints in let e = r.n_joints in omega arith

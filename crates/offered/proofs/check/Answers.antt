@@ -1,8 +1,7 @@
 -- A refused sheet's refusal, or what its joints and lists give.
 use Rattle.std.proofs.Common.{rules, ◌≡◌, Ok, Err, sym, ◌∙◌}
-use native.Mathlib.Omega.{arith}
 use Rattle.sheet.specs.Square.{square_of}
-use Rattle.sheet.proofs.Accepted.{accepted}
+use Rattle.sheet.proofs.Accepted.{few_read}
 use Rattle.sheet.proofs.ReadAs.{ReadAs, read_as, square_filled}
 use Rattle.offered.proofs.LawsChecks.{check_read, check_refused}
 use Rattle.offered.proofs.check.Goals as goal
@@ -23,11 +22,7 @@ returns-in_err-parts c =
     same ∙ check_refused c.args.sheet.now c.args.pairing.now _ (sym c.lists.ensures.value ∙ refused)
 
 pub invariant_of-joints : goal.invariant_of-joints
-invariant_of-joints c =
-    let at = (goal.at.invariant_of-joints c).In_ok-parts in
-    let few = (accepted c.args.sheet.now (parts at).faultless).few_joints in
-    let e = (parts at).n_joints in
-    record { few = omega arith }
+invariant_of-joints c = record { few = few_read _ _ (parts (goal.at.invariant_of-joints c).In_ok-parts) }
 
 pub returns : goal.returns
 returns c =

@@ -1,8 +1,7 @@
 -- `read` is `lists` with a square of its own.
 use Rattle.std.proofs.Common.{rules, ◌≡◌, Err, sym, ◌∙◌}
-use native.Mathlib.Omega.{arith}
 use Rattle.sheet.specs.Square.{square_of}
-use Rattle.sheet.proofs.Accepted.{accepted}
+use Rattle.sheet.proofs.Accepted.{few_read}
 use Rattle.sheet.proofs.PromiseKept.{accepted_square}
 use Rattle.sheet.proofs.ReadAs.{ReadAs, read_as, square_filled}
 use Rattle.sheet.proofs.read.Goals as goal
@@ -20,11 +19,7 @@ returns-in_err-parts c =
     rw same (sym c.lists.ensures.value ∙ c.in_err-parts.was)
 
 pub invariant_of-joints : goal.invariant_of-joints
-invariant_of-joints c =
-    let at = (goal.at.invariant_of-joints c).In_ok-parts in
-    let few = (accepted c.args.sheet.now (parts at).faultless).few_joints in
-    let e = (parts at).n_joints in
-    record { few = omega arith }
+invariant_of-joints c = record { few = few_read _ _ (parts (goal.at.invariant_of-joints c).In_ok-parts) }
 
 pub invariant_of-result : goal.invariant_of-result
 invariant_of-result c =

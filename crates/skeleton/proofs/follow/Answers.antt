@@ -3,7 +3,7 @@ use Rattle.std.proofs.Common.{◌≡◌, ◌∙◌, ◌-◌, ◌≤◌, ℕ, len
 use Rattle.base.proofs.Places.{rest_is}
 use Rattle.sheet.specs.Format.{third}
 use Rattle.sheet.specs.Square.{square_of}
-use Rattle.sheet.proofs.Accepted.{accepted}
+use Rattle.sheet.proofs.Accepted.{accepted, few_read}
 use Rattle.sheet.proofs.ReadAs.{ReadAs, read_as, square_filled}
 use Rattle.skeleton.proofs.AnswerLaws.{sheet_refused, own_section, sheet_accepted}
 use Rattle.skeleton.proofs.follow.Goals as goal
@@ -36,11 +36,7 @@ pub slice_bounds-follow_lists-start : goal.slice_bounds-follow_lists-start
 slice_bounds-follow_lists-start c = omega (arith, within (goal.at.slice_bounds-follow_lists-start c).In_ok-parts)
 
 pub invariant_of-joints : goal.invariant_of-joints
-invariant_of-joints c =
-    let at = (goal.at.invariant_of-joints c).In_ok-parts in
-    let few = (accepted c.args.sheet.now (parts at).faultless).few_joints in
-    let e = (parts at).n_joints in
-    record { few = omega arith }
+invariant_of-joints c = record { few = few_read _ _ (parts (goal.at.invariant_of-joints c).In_ok-parts) }
 
 pub follow_lists-requires : goal.follow_lists-requires
 follow_lists-requires c =
