@@ -1,28 +1,21 @@
 -- Laws of words met in their places, and of counts.
-use mathlib.Core.Path.{◌≡◌, refl, sym, ap, ◌∙◌}
-use mathlib.Core.Bool.{Bool, true, false, cond, ◌&&◌}
+use mathlib.Core.Path.{◌≡◌, refl, ap, ◌∙◌}
+use mathlib.Core.Bool.{Bool, true, false, cond}
 use mathlib.Core.List.{List, [], ◌∷◌, ◌++◌, append_assoc}
-use mathlib.Core.Logic.{inr}
 use mathlib.Core.Option.{Option, none, some}
-use Prim.Native.Nat.{ℕ, zero, suc, ◌+◌, ◌*◌, ◌-◌, ◌≤◌, ◌<◌, ◌^◌}
+use Prim.Native.Nat.{ℕ, zero, suc, ◌+◌, ◌*◌, ◌-◌, ◌≤◌, ◌<◌}
 use native.Mathlib.Omega.{arith}
-use lib.ListN.{length, length-append, get_or-eq_default}
-use lib.Dec.{eqb, leb}
+use lib.ListN.{length, length-append, get_or, drop, drop_of_length-le}
+use lib.Seq.{drop-cons}
+use native.Mathlib.Numerals.{add-one}
+use lib.Dec.{eqb}
 use lib.Pointwise.{pointwise, bytes_decides}
-use borrow.Author.Tests.{le-leb, leb-true}
+use borrow.Author.Tests.{le-leb, lt-leb}
 use denote.Ref.{Bor}
 use Rattle.std.specs.Prelude.{Some, None, Result, Ok, Err}
 use Rattle.std.specs.Prelude as found
-use Rattle.std.specs.Char.{is_ascii_digit}
-use Rattle.std.specs.List.{list_all}
-use Rattle.std.specs.Result.{result_ok}
-use Rattle.std.specs.Str.{IsUtf8}
-use Rattle.std.specs.Str.Parse.{ParsesUnsigned}
 use Rattle.std.proofs.lemmas.List.{nil_from_length}
-use Rattle.std.proofs.lemmas.Str.{IsUtf8-from_ascii}
-use Rattle.std.proofs.lemmas.Str.Parse.{IsDigitsTest, FoldsDigits, IsNumeralModel, numerals_by_fold, parse_digits, digit_at}
 use Rattle.base.proofs.Cases.{case, lt_ge}
-use Rattle.base.proofs.Tests.{and_true}
 use Rattle.sections.specs.Labels.{same_bytes}
 use Rattle.sections.proofs.LabelLaws.{same_is}
 use Rattle.writing.specs.Claims.{value_after}
@@ -90,9 +83,9 @@ module _ {s word rest : List ℕ} (next : NextWord s word rest) where
   unfolding any_words
   any_next k = rw next.ahead
 
-  pub counted_is : (k : ℕ) → CountOf word (Some k) → counted (words s) ≡ any_words k (words rest)
+  pub counted_is : (most k : ℕ) → CountOf word most (Some k) → counted (words s) ≡ any_words k (words rest)
   unfolding counted
-  counted_is k h = rw (next.ahead, h.0, h.1)
+  counted_is most k h = rw (next.ahead, h.0, h.1.0)
 
 -- FEWER WORDS than are asked for
 any_short : (k : ℕ) (ws : Words) → length ws < k → any_words k ws ≡ none
@@ -105,11 +98,10 @@ either_none : (b : Bool) (left : Option Words) → left ≡ none → cond b left
 either_none true left e = e
 either_none false left e = refl
 
-pub counted_unfit : {s word rest : List ℕ} → NextWord s word rest → length s < 2 ^ 64 → CountOf word None → counted (words s) ≡ none
+pub counted_unfit : {s word rest : List ℕ} → NextWord s word rest → CountOf word (length rest) None → counted (words s) ≡ none
 unfolding counted
-counted_unfit {s} {word} {rest} next fits h =
+counted_unfit {s} {word} {rest} next h =
     let few = words_few false rest in
-    let short = next_shorter next in
     rw next.ahead
     (case h (λ e. rw e) (λ l. either_none (all_digits word) _ (any_short (value_after 0 word) (words rest) (omega arith))))
 
@@ -121,40 +113,38 @@ any_end count i ws h = let e : count - i ≡ 0 = omega arith in rw e
 pub any_turn : {s word rest : List ℕ} (count i : ℕ) → i < count → NextWord s word rest → any_words (count - i) (words s) ≡ any_words (count - (i + 1)) (words rest)
 any_turn count i h next = let n : count - i ≡ suc (count - (i + 1)) = omega arith in rw n (any_next next _)
 
--- A WORD OF DIGITS, as the library knows and reads it
-pub all_same : (w : List ℕ) → list_all is_ascii_digit w ≡ all_digits w
-unfolding all_digits
-all_same [] = refl
-all_same (b ∷ w) = ap (λ (t : Bool). (leb 48 b && leb b 57) && t) (all_same w)
-
-tells : IsDigitsTest (λ w. all_digits w ≡ true)
-unfolding all_digits
-tells = record {
-  empty = refl;
-  parts = λ b w e.
-      let (here, rest) = and_true (leb 48 b && leb b 57) (all_digits w) e in
-      let (low, high) = and_true (leb 48 b) (leb b 57) here in
-      ((leb-true 48 b low, leb-true b 57 high), rest);
-  more = λ b w h e. rw (le-leb 48 b h.0, le-leb b 57 h.1, e) refl;
-}
-
-folds : FoldsDigits value_after
+-- DIGITS, one after the other: a value only grows
+value_grows : (v : ℕ) (w : List ℕ) → v ≤ value_after v w
 unfolding value_after
-folds = record {
-  empty = λ v. refl;
-  more = λ v b w h. let e : 10 * v + (b - 48) ≡ v * 10 + (b - 48) = omega arith in ap (λ (k : ℕ). value_after k w) e;
-}
+value_grows v [] = omega arith
+value_grows v (b ∷ w) = let h = value_grows (10 * v + (b - 48)) w in omega arith
 
-digits : IsNumeralModel (λ w. all_digits w ≡ true) (value_after 0)
-digits = numerals_by_fold (λ w. all_digits w ≡ true) tells value_after folds
+module _ (w : List ℕ) (i : ℕ) where
+  pub digits_more : i < length w → 48 ≤ get_or w i 0 → get_or w i 0 ≤ 57 → all_digits (drop i w) ≡ all_digits (drop (i + 1) w)
+  unfolding all_digits
+  digits_more h l u = rw (add-one, drop-cons w i 0, le-leb _ _ l, le-leb _ _ u)
 
-pub digits_text : (w : List ℕ) → all_digits w ≡ true → IsUtf8 w
-digits_text w e =
-    IsUtf8-from_ascii w
-    (λ i. case (lt_ge i (length w)) (λ l. omega (arith, digit_at w i (digits.to w e) l)) (λ g. omega (arith, get_or-eq_default w 0 g)))
+  pub digits_less : i < length w → ((48 ≤ get_or w i 0) × (get_or w i 0 ≤ 57) → ⊥) → all_digits (drop i w) ≡ false
+  unfolding all_digits
+  digits_less h unfit =
+      rw (drop-cons w i 0)
+      (case (lt_ge (get_or w i 0) 48) (λ l. rw (lt-leb _ _ l)) (λ g. case (lt_ge 57 (get_or w i 0)) (λ u. rw (le-leb _ _ g, lt-leb _ _ u)) (λ d. absurd (unfit (g, d)))))
 
-pub parsed_is : {E : Type 0} (w : List ℕ) (r : Result ℕ E) → all_digits w ≡ true → 1 ≤ length w → ParsesUnsigned 64 10 w r → CountOf w (result_ok r)
-parsed_is {E} w (Ok k) e long h = (e, sym (parse_digits digits {E = E} 64 w (Ok k) h e).1)
-parsed_is {E} w (Err x) e long h =
-    let fits = parse_digits digits {E = E} 64 w (Err x) h e in
-    inr (case (lt_ge (value_after 0 w) (2 ^ 64)) (λ l. absurd (fits (omega arith, l))) (λ g. g))
+  pub digits_end : length w ≤ i → all_digits (drop i w) ≡ true
+  unfolding all_digits
+  digits_end h = rw (drop_of_length-le w h)
+
+  pub value_more : (v : ℕ) → i < length w → value_after v (drop i w) ≡ value_after (10 * v + (get_or w i 0 - 48)) (drop (i + 1) w)
+  unfolding value_after
+  value_more v h = rw (add-one, drop-cons w i 0)
+
+  pub value_end : (v : ℕ) → length w ≤ i → value_after v (drop i w) ≡ v
+  unfolding value_after
+  value_end v h = rw (drop_of_length-le w h)
+
+  -- what a digit makes of it is no more than it comes to
+  pub value_reaches : (v : ℕ) → i < length w → 10 * v + (get_or w i 0 - 48) ≤ value_after v (drop i w)
+  value_reaches v h =
+      let more = value_more v h in
+      let grown = value_grows (10 * v + (get_or w i 0 - 48)) (drop (i + 1) w) in
+      omega arith

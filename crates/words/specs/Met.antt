@@ -1,6 +1,6 @@
 -- Words met in their places: a word that must stand there, any words, a count with as many words. Each says which words are left, or none
 -- where it is not met.
-use Rattle.std.specs.Prelude.{◌≡◌, ◌⊎◌, Bool, true, false, ◌&&◌, cond, List, [], ◌∷◌, ◌++◌, ℕ, zero, suc, ◌^◌, ◌≤◌, leb, length, Some, None}
+use Rattle.std.specs.Prelude.{◌≡◌, ◌⊎◌, Bool, true, false, ◌&&◌, cond, List, [], ◌∷◌, ◌++◌, ℕ, zero, suc, ◌≤◌, ◌<◌, leb, length, Some, None}
 use Rattle.std.specs.Borrow.{Bor}
 use Rattle.std.proofs.Math.Option.{Option, none, some}
 use Rattle.sections.specs.Labels.{same_bytes}
@@ -50,7 +50,7 @@ abbrev pub Reaches : List ℕ → found.Option (Bor (List ℕ)) → Option Words
 Reaches s None left = left ≡ none
 Reaches s (Some rest) left = (left ≡ some (words rest.now)) × Follows s rest.now
 
--- a word of digits has its value, if this is a usize's; any other is either not digits or counts more
-abbrev pub CountOf : List ℕ → found.Option ℕ → Type 0
-CountOf w None = (all_digits w ≡ false) ⊎ (2 ^ 64 ≤ value_after 0 w)
-CountOf w (Some k) = (all_digits w ≡ true) × (value_after 0 w ≡ k)
+-- a word that counts at most `most` is digits, and its value is found; any other is either not digits or counts more
+abbrev pub CountOf : List ℕ → ℕ → found.Option ℕ → Type 0
+CountOf w most None = (all_digits w ≡ false) ⊎ (most < value_after 0 w)
+CountOf w most (Some k) = (all_digits w ≡ true) × ((value_after 0 w ≡ k) × (k ≤ most))

@@ -1,30 +1,40 @@
-use Rattle.std.proofs.Common.{◌≡◌, ◌∙◌, sym, rules, inl}
-use Rattle.std.specs.Char.{is_ascii_digit}
-use Rattle.std.specs.Str.{IsUtf8}
-use Rattle.std.proofs.lemmas.Iterator.{YieldsList-from_slice}
-use Rattle.std.proofs.lemmas.Iterator.Search.{all_from_yields_List}
-use Rattle.words.specs.Met.{all_digits}
-use Rattle.words.proofs.MetLaws.{all_same, digits_text, parsed_is}
+use Rattle.std.proofs.Common.{◌≡◌, ◌∙◌, ◌+◌, ◌*◌, ◌-◌, arith, inl, inr, get_or}
+use Rattle.words.proofs.MetLaws.{digits_more, digits_less, digits_end, value_more, value_end, value_reaches}
 use Rattle.words.proofs.counts.count_of.Goals as goal
-use Rattle.words.proofs.counts.count_of.Goals.{After-all}
 
--- what its walk has found
-digits : (c : After-all) → all_digits c.args.word.now ≡ c.all.result
-digits c =
-    sym (all_from_yields_List is_ascii_digit _ _ _ c.all.ensures.ran (YieldsList-from_slice c.args.word.now cc) (λ x b q k. search rules)
-    ∙ all_same c.args.word.now)
+pub returns-in_err-checked_mul : goal.returns-in_err-checked_mul
+returns-in_err-checked_mul c =
+    let least = value_reaches _ _ c.loop-b.value c.loop-b-test.true in
+    rw c.from_residual.ensures (inr (rw c.loop-b.invariant.value (omega (arith, least, c.in_err-checked_mul.ensures))))
 
-pub returns-then-not-all : goal.returns-then-not-all
-returns-then-not-all c = inl (digits (goal.at.returns-then-not-all c).After-all ∙ c.if-not-all.true)
+pub returns-in_err-digit : goal.returns-in_err-digit
+returns-in_err-digit c =
+    rw c.from_residual-in_err-digit.ensures (inl (c.loop-b.invariant.digits ∙ digits_less _ _ c.loop-b-test.true c.in_err-digit.ensures))
 
-pub returns-in_err-ok : goal.returns-in_err-ok
-returns-in_err-ok c =
-    let no_text : IsUtf8 c.args.word.now → ⊥ = search rules in
-    absurd (no_text (digits_text _ (digits (goal.at.returns-in_err-ok c).After-all ∙ c.if-not-all.false)))
+pub returns-in_err-value : goal.returns-in_err-value
+returns-in_err-value c =
+    let least = value_reaches _ _ c.loop-b.value c.loop-b-test.true in
+    rw c.from_residual-in_err-value.ensures (inr (rw c.loop-b.invariant.value (omega (arith, least, c.in_err-value.ensures, c.in_ok-checked_mul.ensures, c.in_ok-digit.ensures))))
+
+pub returns-then-most-value : goal.returns-then-most-value
+returns-then-most-value c =
+    let least = value_reaches _ _ c.loop-b.value c.loop-b-test.true in
+    inr (rw c.loop-b.invariant.value (omega (arith, least, c.in_ok-value.ensures, c.in_ok-checked_mul.ensures, c.in_ok-digit.ensures)))
+
+pub loop-b-preserved : goal.loop-b-preserved
+loop-b-preserved c =
+    let inv = c.loop-b.invariant in
+    let v = c.loop-b.value in
+    let b = get_or c.args.word.now c.loop-b.b-index 0 in
+    let next : 10 * v + (b - 48) ≡ c.in_ok-value.value = omega (arith, c.in_ok-value.ensures, c.in_ok-checked_mul.ensures, c.in_ok-digit.ensures) in
+    record {
+      digits = inv.digits ∙ digits_more _ _ c.loop-b-test.true (omega (arith, c.in_ok-digit.ensures)) (omega (arith, c.in_ok-digit.ensures));
+      value = rw (← next) (inv.value ∙ value_more _ _ v c.loop-b-test.true);
+      few = c.if-most-value.false;
+    }
 
 pub returns : goal.returns
 returns c =
-    let word = c.args.word.now in
-    let all = digits (goal.at.returns c).After-all ∙ c.if-not-all.false in
-    let text : c.in_ok-ok.field-0.now ≡ word = search rules in
-    rw c.ok-2.ensures.value (parsed_is word _ all c.requires (rw text at c.parse.ensures.value.0))
+    let inv = c.loop-b.invariant in
+    let end = c.loop-b-test.false in
+    (inv.digits ∙ digits_end _ _ end, (inv.value ∙ value_end _ _ _ end, inv.few))
