@@ -6,6 +6,7 @@ mod sheets;
 ghost use Rattle.std.specs.Prelude.{◌≡◌, length};
 ghost use Rattle.bvh.specs.Answers.{import_of, import_into};
 
+use names::NamedJoints;
 use refusals::Refusal;
 use writing::Writer;
 
@@ -15,12 +16,13 @@ pub fn import(text: &[u8], out: &mut [u8]) -> Result<usize, Refusal>
     ensures value { result ≡ import_of text.now (length out.old) }
     ensures out_after { out.new ≡ import_into text.now out.old }
 {
-    let hierarchy = hierarchy::read(text)?;
-    let size = sheets::size_of(&hierarchy.joints);
+    let mut joints = NamedJoints::new();
+    hierarchy::read(text, &mut joints)?;
+    let size = sheets::size_of(&joints);
     if out.len() < size {
         return Err(Refusal::OutTooShort);
     }
     let mut sheet = Writer::new(out);
-    sheets::write_sheet(&hierarchy.joints, &mut sheet);
+    sheets::write_sheet(&joints, &mut sheet);
     Ok(size)
 }

@@ -5,11 +5,10 @@
 
 mod blocks;
 
-ghost use Rattle.std.specs.Prelude.{◌≡◌, MatchResult};
-ghost use Rattle.refusals.specs.Numbers.{number_of};
+ghost use Rattle.std.specs.Prelude.{◌≡◌, []};
 ghost use Rattle.words.specs.Words.{words};
-ghost use Rattle.hierarchy.specs.Hierarchy.{ends, root_block, roots, hierarchy, met_fault};
-ghost use Rattle.hierarchy.specs.Gathered.{gathered, WasRead, Answered, Shorter};
+ghost use Rattle.hierarchy.specs.Hierarchy.{ends, root_block, roots, hierarchy};
+ghost use Rattle.hierarchy.specs.Gathered.{gathered, Answers, Answered, Shorter};
 
 use blocks::block;
 use names::NamedJoints;
@@ -19,13 +18,6 @@ use words::{keyword, next_word};
 
 // How many levels may nest inside a root's block: JOINT nests to depth 32, and a root has depth 1.
 const DEEPER: usize = 31;
-
-// The joints that a hierarchy names, and the text that follows it.
-#[derive(Drop)]
-pub struct Hierarchy<'a> {
-    pub joints: NamedJoints<'a>,
-    pub rest: &'a [u8],
-}
 
 // Does the hierarchy end here? There MOTION stands, or the text ends.
 fn ends(text: &[u8]) -> bool
@@ -58,13 +50,11 @@ fn roots<'a>(text: &'a [u8], joints: &mut NamedJoints<'a>) -> Result<&'a [u8], R
     }
 }
 
-// Reads the hierarchy, and gathers its joints.
-pub fn read(text: &[u8]) -> Result<Hierarchy<'_>, Refusal>
-    ensures { MatchResult result (λ h. WasRead text.now h.rest.now h.joints.list.items (hierarchy text.now))
-        (λ refusal. met_fault (hierarchy text.now) ≡ number_of refusal) }
+// Reads the hierarchy, and gathers its joints in what is lent, which has none yet. Lent, as for the functions that it calls, and not answered: so 128
+// joints lie on the stack once. Answers the text that follows.
+pub fn read<'a>(text: &'a [u8], joints: &mut NamedJoints<'a>) -> Result<&'a [u8], Refusal>
+    ensures { joints.old.list.items ≡ [] → Answers text.now result joints.new.list.items (hierarchy text.now) }
 {
-    let mut joints = NamedJoints::new();
     let first = keyword(text, b"HIERARCHY").ok_or(Refusal::BadHierarchy)?;
-    let rest = roots(first, &mut joints)?;
-    Ok(Hierarchy { joints, rest })
+    roots(first, joints)
 }

@@ -1,4 +1,4 @@
-use Rattle.std.proofs.Common.{◌≡◌, Err, Ok, rules}
+use Rattle.std.proofs.Common.{◌≡◌, Err, rules}
 use Rattle.words.specs.Words.{words}
 use Rattle.words.specs.Met.{keyword, Reaches}
 use Rattle.headings.specs.Keywords.{hierarchy_word}
@@ -7,21 +7,14 @@ use Rattle.hierarchy.proofs.RootLaws.{whole_broken, whole_answered}
 use Rattle.hierarchy.proofs.read.Goals as goal
 
 pub returns-in_err-first : goal.returns-in_err-first
-returns-in_err-first c =
+returns-in_err-first c = λ fresh.
     let text = c.args.text.now in
     let none = none_met (λ r. Reaches text r (keyword hierarchy_word (words text))) _ _ c.in_err-first.ensures.value c.keyword.ensures in
     let passed : c.from_residual.result ≡ Err c.in_err-first.field-0.0 = search rules in
     rw (passed, none.1) (whole_broken _ none.0)
 
-pub returns-in_err-rest : goal.returns-in_err-rest
-returns-in_err-rest c =
-    let text = c.args.text.now in
-    let first = some_met (λ r. Reaches text r (keyword hierarchy_word (words text))) _ _ c.in_ok-first.ensures.value c.keyword.ensures in
-    let passed : c.from_residual-in_err-rest.result ≡ Err c.in_err-rest.field-0.0 = search rules in
-    rw passed (whole_answered c.new-joints.ensures first (Err c.in_err-rest.field-0.0) c.roots.new.joints.list.items c.in_err-rest.ensures)
-
 pub returns : goal.returns
-returns c =
+returns c = λ fresh.
     let text = c.args.text.now in
     let first = some_met (λ r. Reaches text r (keyword hierarchy_word (words text))) _ _ c.in_ok-first.ensures.value c.keyword.ensures in
-    whole_answered c.new-joints.ensures first (Ok c.in_ok-rest.rest) c.roots.new.joints.list.items c.in_ok-rest.ensures
+    whole_answered fresh first c.roots.result c.roots.new.joints.list.items c.roots.ensures
