@@ -105,9 +105,10 @@ fn bands_of(n: Joints, seed: u32, style: Style) -> Bands {
     bands
 }
 
-// Bytes at the end of a sheet that has room for them, as each has here.
+// Bytes at the end of a sheet, as many as it has room for.
 pub fn put<const ROOM: usize>(sheet: &mut ArrayVec<u8, ROOM>, bytes: &[u8]) {
-    let _ = sheet.try_extend_from_slice(bytes);
+    let size = bytes.len().min(sheet.remaining_capacity());
+    let _ = sheet.try_extend_from_slice(&bytes[..size]);
 }
 
 // What buffers are filled with before a call.
@@ -127,10 +128,11 @@ fn put_label<const ROOM: usize>(sheet: &mut ArrayVec<u8, ROOM>, label: [u8; 2]) 
     put(sheet, &[0; 14]);
 }
 
-// So many labels, which are 0a, 0b and so on.
+// So many labels, which are 0a, 0b and so on; those from 3328 on, which no first byte is left for, begin with a zero.
 pub fn put_labels<const ROOM: usize>(sheet: &mut ArrayVec<u8, ROOM>, count: usize) {
     for i in 0..count {
-        put_label(sheet, [48 + (i / 16 % 16) as u8, 97 + (i % 16) as u8]);
+        let first = u8::try_from(48 + i / 16).unwrap_or(0);
+        put_label(sheet, [first, 97 + (i % 16) as u8]);
     }
 }
 

@@ -1,9 +1,8 @@
 // Compares what reading a sheet answers with what a case expects.
 use crate::build::number_of;
-use arrayvec::ArrayString;
+use labels::opened::Opened;
 use sheet::Parts;
 use skeleton::follow;
-use std::fmt::{self, Write};
 
 type Bands = [[u8; 128]; 128];
 
@@ -22,33 +21,33 @@ fn follow_alone(sheet: &[u8], n: usize) -> Result<bool, u8> {
     Ok(strays.is_none())
 }
 
-// Refused by the number that is expected, by follow too, and the square is as it was.
-fn is_refused_so(sheet: &[u8], number: u8, bands: &Bands, expected: &str) -> bool {
-    bands.as_flattened().iter().all(|band| *band == MARK)
-        && follow_alone(sheet, 0) == Err(number)
-        && expected.parse().ok() == Some(number)
+// Is the word, if there is one, the number?
+fn says(word: Option<&[u8]>, number: usize) -> bool {
+    word.and_then(number_of) == Some(number)
 }
 
-// Accepted with the parts that are expected, and as many places of the square with a band.
-fn is_accepted_so(parts: Parts, bands: &Bands, expected: &str) -> bool {
-    let Parts {
-        joints,
-        entries,
-        labels,
-        rankings,
-        parents,
-    } = parts;
+// Refused by the number that is expected, by follow too, and the square is as it was. Words after the number are not looked at.
+fn is_refused_so(sheet: &[u8], number: u8, bands: &Bands, expected: &[u8]) -> bool {
+    bands.as_flattened().iter().all(|band| *band == MARK)
+        && follow_alone(sheet, 0) == Err(number)
+        && says(expected.split(|b| *b == b' ').next(), usize::from(number))
+}
+
+// Accepted with the parts that are expected, and as many places of the square with a band. Words after them are not looked at.
+fn is_accepted_so(parts: Parts, bands: &Bands, expected: &[u8]) -> bool {
     let places = bands
         .as_flattened()
         .iter()
         .filter(|band| **band != 0)
         .count();
-    let mut text: ArrayString<64> = ArrayString::new();
-    let written = write!(
-        text,
-        "ok {joints} {entries} {labels} {rankings} {parents} {places}"
-    );
-    written.is_ok() && text.as_str() == expected
+    let mut words = expected.split(|b| *b == b' ');
+    words.next() == Some(b"ok")
+        && says(words.next(), parts.joints)
+        && says(words.next(), parts.entries)
+        && says(words.next(), parts.labels)
+        && says(words.next(), parts.rankings)
+        && says(words.next(), parts.parents)
+        && says(words.next(), places)
 }
 
 // Nobody paired follows, if the sheet has a third section, and else it is missed.
@@ -67,22 +66,19 @@ fn band_is(bands: &Bands, a: usize, b: usize, k: usize) -> bool {
     band.is_some_and(|band| usize::from(*band) == k)
 }
 
-// Is the text label i?
-fn label_is(sheet: &[u8], i: usize, text: &str) -> bool {
-    let (labels, _) = sheet.get(1..).unwrap_or(&[]).as_chunks::<16>();
-    labels
-        .get(i)
-        .is_some_and(|label| label.as_slice() == text.as_bytes())
+// Is the text label i? Asked of the whole sheet, so that the 16 bytes behind the last label can be asked for too.
+fn label_is(sheet: &[u8], i: usize, text: &[u8]) -> bool {
+    i < 128 && 17 + 16 * i <= sheet.len() && Opened::new(sheet, 1, sheet.len()).label(i) == text
 }
 
-// One check of an accepted sheet: `band a b k`, or `label i text`.
-fn check_holds(sheet: &[u8], bands: &Bands, claim: &str) -> bool {
-    let mut words = claim.split(' ');
+// One check of an accepted sheet: `label i text`, or else `band a b k`.
+fn check_holds(sheet: &[u8], bands: &Bands, claim: &[u8]) -> bool {
+    let mut words = claim.split(|b| *b == b' ');
     let kind = words.next();
     let (Some(i), Some(second)) = (words.next().and_then(number_of), words.next()) else {
         return false;
     };
-    if kind == Some("label") {
+    if kind == Some(b"label") {
         return label_is(sheet, i, second);
     }
     match (number_of(second), words.next().and_then(number_of)) {
@@ -91,24 +87,25 @@ fn check_holds(sheet: &[u8], bands: &Bands, claim: &str) -> bool {
     }
 }
 
-// What a sheet that does not read as its line says was read as. No Option, since this is the error of a Result, and is written by Display.
+// What a sheet that does not read as its line says was read as. No Option, since this is the error of a Result.
 #[derive(Clone, Copy)]
 pub enum Differs {
     Accepted,
     Refused(u8),
 }
 
-impl fmt::Display for Differs {
-    fn fmt<W: fmt::Write>(&self, f: &mut fmt::Formatter<W>) -> fmt::Result {
+impl Differs {
+    // The number by which it is written.
+    pub fn number(self) -> u8 {
         match self {
-            Differs::Accepted => write!(f, "accepted"),
-            Differs::Refused(number) => write!(f, "refused with {number}"),
+            Differs::Accepted => 0,
+            Differs::Refused(number) => number,
         }
     }
 }
 
 // Does the sheet read as its line says?
-pub fn read_as(sheet: &[u8], expected: &str, checks: &str) -> Result<(), Differs> {
+pub fn read_as(sheet: &[u8], expected: &[u8], checks: &[u8]) -> Result<(), Differs> {
     let mut bands = [[MARK; 128]; 128];
     match read(sheet, &mut bands) {
         Err(number) if is_refused_so(sheet, number, &bands, expected) => Ok(()),
@@ -118,7 +115,7 @@ pub fn read_as(sheet: &[u8], expected: &str, checks: &str) -> Result<(), Differs
                 && is_followed_so(sheet, parts)
                 && (checks.is_empty()
                     || checks
-                        .split(',')
+                        .split(|b| *b == b',')
                         .all(|claim| check_holds(sheet, &bands, claim)));
             if is_so {
                 Ok(())
