@@ -125,17 +125,19 @@ fn try_round(counts: &mut Counts, round: u32) {
     let a = next(97 * (round % 65536) + 11);
     let b = next(a);
     let c = next(b);
-    let mut sheet = varied_sheet(round, 181 * (round % 65536) % 65537);
+    let sheet = varied_sheet(round, 181 * (round % 65536) % 65537);
     let walk = drawn_walk(&Work::fresh(Call::Settle, &sheet), b);
     let damage = Damage::drawn(a / 32);
+    let mut bytes = ArrayVec::new();
+    put(&mut bytes, &sheet.bytes);
     if let Some(damage) = damage {
-        damage.put_in(&mut sheet.bytes);
+        damage.put_in(&mut bytes);
     }
     let terms = Terms {
         tariff: drawn_tariff(c, Form::drawn(a)),
         rebate: tariffs::rebate(next(c)),
     };
-    let said = quoted(&sheet.bytes, &walk.list, &terms);
+    let said = quoted(&bytes, &walk.list, &terms);
     counts.sheets.note(said);
     counts.note_kind(said);
     let expected = match damage {

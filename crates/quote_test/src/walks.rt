@@ -4,14 +4,14 @@ use rules::{End, Work, any_of};
 use samples::next;
 
 // Choices, and what becomes of the working: an end, or the number of a refusal; nothing where it has not ended.
-#[derive(Drop)]
+#[derive(Clone, Copy)]
 pub struct Walk {
     pub list: Choices,
     pub end: Option<Result<End, u8>>,
 }
 
 // Steps, the working after them, and where the generator stands.
-#[derive(Drop)]
+#[derive(Clone, Copy)]
 struct Path {
     at: u32,
     list: Choices,
@@ -22,7 +22,7 @@ struct Path {
 fn steps(start: &Work, seed: u32, most: u32) -> Path {
     let mut path = Path {
         at: seed,
-        list: longer(&Choices::new(), &<[u8; 2]>::from(Record::Mark(3))),
+        list: longer(&Choices::of(b""), &<[u8; 2]>::from(Record::Mark(3))),
         work: *start,
     };
     for _ in 0..most {

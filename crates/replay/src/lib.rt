@@ -5,9 +5,10 @@ ghost use Rattle.std.specs.Prelude.{◌<◌, ◌≤◌, IfSome, length};
 
 use arrayvec::ArrayVec;
 use rules::{Stage, Work};
+use samples::{Bytes, put};
 
 // Bytes of choices: two for each record, and perhaps one more.
-pub type Choices = ArrayVec<u8, 64>;
+pub type Choices = Bytes<64>;
 
 // A record that a list may have: a step of a joint, a mark set, a return to a mark.
 #[derive(Clone, Copy, PartialEq, Eq)]
@@ -41,10 +42,10 @@ impl From<Record> for [u8; 2] {
 
 // The choices, and bytes more if there is room.
 pub fn longer(list: &Choices, bytes: &[u8]) -> Choices {
-    let mut more = ArrayVec::new();
-    let _ = more.try_extend_from_slice(list);
-    let _ = more.try_extend_from_slice(bytes);
-    more
+    let mut more: ArrayVec<u8, 64> = ArrayVec::new();
+    put(&mut more, list);
+    put(&mut more, bytes);
+    Choices::of(&more)
 }
 
 // The last record that sets a mark.

@@ -1,9 +1,10 @@
 // Sheets for the test programs: of up to 8 joints from a fixed generator, and long ones without entries; and filled buffers.
 #![tactic(auto)]
 
-ghost use Rattle.std.specs.Prelude.{◌<◌, ◌≤◌};
+ghost use Rattle.std.specs.Prelude.{◌≡◌, ◌<◌, ◌≤◌, length, min, take};
 
 use arrayvec::ArrayVec;
+use std::ops::DerefSlice;
 
 // How many joints there are: at most 8, which bands and pairings have room for. The test programs stand apart from the library, so that no one
 // type with a const parameter serves both.
@@ -55,12 +56,42 @@ impl Style {
     }
 }
 
+// Up to so many bytes, in an array with what is behind them. For types that are copied, as an ArrayVec is not.
+#[derive(Clone, Copy)]
+pub struct Bytes<const ROOM: usize> {
+    array: [u8; ROOM],
+    len: usize,
+    ghost within: { len ≤ ROOM },
+}
+
+impl<const ROOM: usize> Bytes<ROOM> {
+    // These bytes, as many as there is room for.
+    pub fn of(bytes: &[u8]) -> Bytes<ROOM>
+        ensures { take result.len result.array ≡ take ROOM bytes.now }
+    {
+        Bytes {
+            array: filled(bytes),
+            len: bytes.len().min(ROOM),
+        }
+    }
+}
+
+impl<const ROOM: usize> DerefSlice for Bytes<ROOM> {
+    type Elem = u8;
+
+    ghost deref_gives = { λ bytes shown. shown ≡ take bytes.len bytes.array };
+
+    fn deref(&self) -> &[u8] {
+        &self.array[..self.len]
+    }
+}
+
 // A sheet: its joints, its bands and its bytes, of which 8 joints have up to 1 + 8 × 16 + 2 + 64 × 3.
-#[derive(Drop)]
+#[derive(Clone, Copy)]
 pub struct Sheet {
     pub n: Joints,
     pub bands: Bands,
-    pub bytes: ArrayVec<u8, 384>,
+    pub bytes: Bytes<384>,
 }
 
 // The bytes of a long sheet: room for 128 joints with an entry of each, and 129 without.
@@ -115,7 +146,9 @@ pub fn put<const ROOM: usize>(sheet: &mut ArrayVec<u8, ROOM>, bytes: &[u8]) {
 pub const FILL: u8 = 170;
 
 // A filled buffer with these bytes at its start.
-pub fn filled<const ROOM: usize>(bytes: &[u8]) -> [u8; ROOM] {
+pub fn filled<const ROOM: usize>(bytes: &[u8]) -> [u8; ROOM]
+    ensures { take (min (length bytes.now) ROOM) result ≡ take ROOM bytes.now }
+{
     let mut out = [FILL; ROOM];
     let size = bytes.len().min(ROOM);
     out[..size].copy_from_slice(&bytes[..size]);
@@ -138,7 +171,7 @@ pub fn put_labels<const ROOM: usize>(sheet: &mut ArrayVec<u8, ROOM>, count: usiz
 
 // The sheet of n joints with these bands. Labels are a, b, c and so on.
 pub fn sheet_of(n: Joints, bands: Bands) -> Sheet {
-    let mut bytes = ArrayVec::new();
+    let mut bytes: ArrayVec<u8, 384> = ArrayVec::new();
     put(&mut bytes, &[n.count as u8]);
     for i in 0..n.count {
         put_label(&mut bytes, [97 + i as u8, 0]);
@@ -153,7 +186,11 @@ pub fn sheet_of(n: Joints, bands: Bands) -> Sheet {
             }
         }
     }
-    Sheet { n, bands, bytes }
+    Sheet {
+        n,
+        bands,
+        bytes: Bytes::of(&bytes),
+    }
 }
 
 // A sheet of n joints that the generator draws.

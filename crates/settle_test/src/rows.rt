@@ -28,7 +28,7 @@ fn row_o(counts: &mut Counts, band: u8, due: Result<End, u8>, left: [u8; 256]) {
     let said = ask(
         Call::Settle,
         &sheet_of(Joints { count: 2 }, bands),
-        &Choices::new(),
+        &Choices::of(b""),
         256,
     );
     let comparisons = &mut counts.comparisons;

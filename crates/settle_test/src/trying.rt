@@ -7,7 +7,7 @@ use rules::{Answer, Call, End, Stage, Work, any_of};
 use samples::{Joints, Sheet, next};
 
 // A sheet with its number, a fresh working of each call, and how many super-stable matchings there are.
-#[derive(Drop)]
+#[derive(Clone, Copy)]
 pub struct Case {
     pub round: u32,
     pub sheet: Sheet,
@@ -17,7 +17,7 @@ pub struct Case {
 }
 
 // A list of records, and the two workings after it.
-#[derive(Drop)]
+#[derive(Clone, Copy)]
 struct Walk {
     list: Choices,
     settle: Work,
@@ -27,7 +27,7 @@ struct Walk {
 impl Case {
     fn start(&self) -> Walk {
         Walk {
-            list: Choices::new(),
+            list: Choices::of(b""),
             settle: self.settle,
             shorten: self.shorten,
         }
@@ -55,9 +55,10 @@ impl Case {
     // How long a call's buffer must be: n, or as long as the rankings of the sheet, which follow the count of joints and the labels.
     fn room(&self, call: Call) -> usize {
         let n = self.sheet.n.count;
+        let bytes: &[u8] = &self.sheet.bytes;
         match call {
             Call::Settle => n,
-            Call::Shorten => self.sheet.bytes.len().saturating_sub(1 + 16 * n),
+            Call::Shorten => bytes.len().saturating_sub(1 + 16 * n),
         }
     }
 
@@ -135,14 +136,14 @@ impl Case {
     fn try_rooms(&self, counts: &mut Counts, fresh: &Work) {
         let call = fresh.call;
         let room = self.room(call);
-        let said = ask(call, &self.sheet, &Choices::new(), room);
+        let said = ask(call, &self.sheet, &Choices::of(b""), room);
         self.compare_answer(counts, call, &said, &fresh.ended().answered());
         if room == 0 {
             return;
         }
         let mut refused = *fresh;
         refused.stage = Stage::Refused(9);
-        let odd = longer(&Choices::new(), &[0]);
+        let odd = longer(&Choices::of(b""), &[0]);
         let short = ask(call, &self.sheet, &odd, room - 1);
         self.compare_answer(counts, call, &short, &refused.answered());
     }
