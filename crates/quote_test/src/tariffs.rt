@@ -94,12 +94,24 @@ impl Form {
     }
 
     // How many steps the tariff has.
-    fn count(self, seed: u32) -> u8 {
+    fn count(self, seed: u32) -> u8
+        ensures { result < 18 }
+    {
         match self {
             Form::NoStep => 0,
             Form::SeventeenSteps => 17,
             Form::Highest => 1,
             _ => (seed % 65537 / 12 % 16) as u8 + 1,
+        }
+    }
+
+    // How many steps are drawn for so many: where a byte is too many, it is the first of a step more.
+    fn drawn_for(self, count: u8) -> u8
+        requires { count < 18 }
+    {
+        match self {
+            Form::Long => count + 1,
+            _ => count,
         }
     }
 
@@ -129,7 +141,7 @@ impl Form {
             Form::Short => {
                 let _ = tariff.pop();
             }
-            Form::Long => put(tariff, &[any_byte(x)]),
+            Form::Long => tariff.truncate(tariff.len().saturating_sub(4)),
             Form::AnyByte => {
                 if let Some(byte) = tariff.get_mut((x % 81) as usize) {
                     *byte = any_byte(x);
@@ -154,7 +166,7 @@ fn any_byte(x: u32) -> u8 {
 pub fn drawn_tariff(seed: u32, form: Form) -> Tariff {
     let x = next(seed);
     let count = form.count(seed);
-    let mut steps = drawn_steps(seed, count);
+    let mut steps = drawn_steps(seed, form.drawn_for(count));
     form.put_in_steps(&mut steps, x);
     let mut tariff = Tariff::new();
     put(&mut tariff, &[count]);
