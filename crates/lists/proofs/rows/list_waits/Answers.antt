@@ -9,6 +9,7 @@ use Rattle.lists.proofs.rows.list_waits.Goals.{After-fold-listed}
 -- what its walk has found
 all : (c : After-fold-listed) → c.fold-listed.result ≡ walked c.args.n.count c.args.k c.args.row.now
 all c =
+    let same : c.min.result ≡ c.args.n.count = omega (arith, c.min.ensures, c.args.n.few) in
     fold_from_yields_List _ (walk c.args.k) (false, false) c.fold-listed.result c.fold-listed.ensures.ran
     (YieldsList-from_slice (take c.args.n.count c.args.row.now) cc) (λ a x b q k. search rules)
 
