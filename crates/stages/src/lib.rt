@@ -6,7 +6,7 @@ ghost use Rattle.std.specs.Prelude.{◌≡◌, ◌≤◌, None};
 ghost use Rattle.roommates.specs.declared.Stage.TheVariants.{Proposing};
 ghost use Rattle.roommates.specs.PhaseOne.{phase_one};
 ghost use Rattle.roommates.specs.Moves.{in_two, end_one, in_one};
-ghost use Rattle.stages.specs.Workings.{work_of, Becomes, Begun};
+ghost use Rattle.stages.specs.Workings.{work_of, Ruled, Becomes, Begun};
 ghost use Rattle.stages.specs.Lawful.{Lawful};
 ghost use Rattle.sheet.specs.Square.{SquarePromise};
 
@@ -97,6 +97,7 @@ impl Working {
     // A working of these lists begins.
     pub fn begin(task: Task, lists: &[[u8; 128]; 128]) -> Working
         ensures begun { Begun task.whole task.joints.count lists.now result }
+        ensures ruled { Ruled result }
         ensures lawful { SquarePromise task.joints.count lists.now → Lawful result }
     {
         let mut begun = Working {
