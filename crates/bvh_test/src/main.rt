@@ -135,10 +135,15 @@ fn try_number(counts: &mut Counts, k: u32) {
     try_text(counts, part, k, &text[..end]);
 }
 
-fn main(rt: HostRuntime) -> io::Result<()> {
+fn run(rt: &impl Print) -> io::Result<()> {
     let mut counts = Counts::default();
     for k in 0..TEXTS {
         try_number(&mut counts, k);
     }
     println!(rt; "{counts}")
+}
+
+// A write that fails ends the print, and is passed over: it says nothing of what was compared.
+fn main(rt: HostRuntime) {
+    let _ = run(&rt);
 }

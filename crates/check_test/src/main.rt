@@ -177,7 +177,7 @@ fn try_pairs(counts: &mut Counts) {
     }
 }
 
-fn main(rt: HostRuntime) -> io::Result<()> {
+fn run(rt: &impl Print) -> io::Result<()> {
     let mut counts = Counts::default();
     try_rounds(&mut counts);
     try_pairs(&mut counts);
@@ -191,4 +191,9 @@ fn main(rt: HostRuntime) -> io::Result<()> {
     }
     println!(rt; "an empty sheet: {}", number_of(checked(b"", b"\x01")))?;
     println!(rt; "{counts}")
+}
+
+// A write that fails ends the print, and is passed over: it says nothing of what was compared.
+fn main(rt: HostRuntime) {
+    let _ = run(&rt);
 }

@@ -85,13 +85,13 @@ const IMPORTED: [(&str, &str); 2] = [
     ("quadruped.bvh", "quadruped.sheet"),
 ];
 
-fn main(rt: HostRuntime) -> io::Result<()> {
+fn run<R: Print + Files>(rt: &R) -> io::Result<()> {
     for (sheet, text) in LISTED {
-        println!(rt; "{sheet}: {}", judge(&rt, sheet, text, is_listed))?;
+        println!(rt; "{sheet}: {}", judge(rt, sheet, text, is_listed))?;
     }
     // The fox has ten pairs: three at 500 cents and seven at 300, less two and a half percent.
     let priced = judge(
-        &rt,
+        rt,
         "fox.sheet",
         "shop.tariff",
         |sheet, tariff| quote(sheet, b"", tariff, 250) == Ok(End::Paired(3510)),
@@ -99,7 +99,7 @@ fn main(rt: HostRuntime) -> io::Result<()> {
     println!(rt; "fox.sheet by shop.tariff: {priced}")?;
     for (sheet, pairing, due) in FOLLOWED {
         let followed = judge(
-            &rt,
+            rt,
             sheet,
             pairing,
             |sheet, pairing| is_followed_so(sheet, pairing, due),
@@ -109,8 +109,13 @@ fn main(rt: HostRuntime) -> io::Result<()> {
     for (text, sheet) in IMPORTED {
         println!(rt;
             "{text} to {sheet}: {}",
-            judge(&rt, text, sheet, is_imported)
+            judge(rt, text, sheet, is_imported)
         )?;
     }
     Ok(())
+}
+
+// A write that fails ends the print, and is passed over: it says nothing of what was compared.
+fn main(rt: HostRuntime) {
+    let _ = run(&rt);
 }

@@ -147,7 +147,7 @@ fn try_round(counts: &mut Counts, round: u32) {
     counts.comparisons.compare("the quote of a random sheet", round, Some(said) == expected);
 }
 
-fn main(rt: HostRuntime) -> io::Result<()> {
+fn run(rt: &impl Print) -> io::Result<()> {
     let mut counts = Counts::default();
     for round in 0..NUMBERS {
         try_number(&mut counts, round);
@@ -156,4 +156,9 @@ fn main(rt: HostRuntime) -> io::Result<()> {
         try_round(&mut counts, round);
     }
     println!(rt; "{counts}")
+}
+
+// A write that fails ends the print, and is passed over: it says nothing of what was compared.
+fn main(rt: HostRuntime) {
+    let _ = run(&rt);
 }

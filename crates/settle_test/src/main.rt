@@ -44,7 +44,7 @@ fn try_sheet(counts: &mut Counts, rows: &Matchings, round: u32) {
     case.try_calls(counts, seed);
 }
 
-fn main(rt: HostRuntime) -> io::Result<()> {
+fn run(rt: &impl Print) -> io::Result<()> {
     let rows = matchings();
     let mut counts = Counts::default();
     try_rows(&mut counts);
@@ -55,4 +55,9 @@ fn main(rt: HostRuntime) -> io::Result<()> {
         try_sheet(&mut counts, &rows, round);
     }
     println!(rt; "{counts}")
+}
+
+// A write that fails ends the print, and is passed over: it says nothing of what was compared.
+fn main(rt: HostRuntime) {
+    let _ = run(&rt);
 }
