@@ -1,5 +1,5 @@
 // A count of words, and as many words.
-ghost use Rattle.std.specs.Prelude.{◌≤◌, ◌-◌, SomeIff};
+ghost use Rattle.std.specs.Prelude.{◌≤◌, ◌<◌, ◌-◌, ◌^◌, SomeIff};
 ghost use Rattle.words.specs.Words.{words};
 ghost use Rattle.words.specs.Met.{counted, CountOf, Reaches};
 
@@ -16,16 +16,23 @@ fn digit(b: u8) -> Option<usize>
     }
 }
 
-// The value of a word of digits that is at most `most`. It is left at the first byte that is no digit, and as soon as the value is above `most`.
+// The value of a word of digits that is at most `most`. It is left at the first byte that is no digit, and once ten times the value is above `most`.
+// Where that is below 2 ^ 63, as the length of a text is, one digit more still fits. By `checked_mul` and `checked_add` a long count took longer.
 fn count_of(word: &[u8], most: usize) -> Option<usize>
+    requires { most < 2 ^ 63 }
     ensures { CountOf word.now most result }
 {
-    let mut value: usize = 0;
+    let tenth = most / 10;
+    let mut value = 0;
     for b in word {
-        value = value.checked_mul(10)?.checked_add(digit(*b)?)?;
-        if most < value {
+        let digit = digit(*b)?;
+        if tenth < value {
             return None;
         }
+        value = 10 * value + digit;
+    }
+    if most < value {
+        return None;
     }
     Some(value)
 }
