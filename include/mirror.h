@@ -10,7 +10,7 @@
  *   - each pointer points to as many bytes as the size after it says (NULL will do where the size is 0);
  *   - `out` shares no byte with another argument, and nothing writes to any argument during the call;
  *   - 384 KiB of stack are free, whatever the sheet and the choices (64 KiB for mirror_check, mirror_follow and mirror_import);
- *     measured, a call uses up to 300,883 bytes (check and follow 33,063, import 17,271). A main thread has far more; a thread
+ *     measured, a call uses up to 267,044 bytes (check and follow 33,000, import 10,920). A main thread has far more; a thread
  *     that is started with a small stack may not.
  *
  * The library is for x86-64 Linux and calls memcpy, memmove and memset of the C library, nothing else.
