@@ -50,8 +50,8 @@ fn roots<'a>(text: &'a [u8], joints: &mut NamedJoints<'a>) -> Result<&'a [u8], R
     }
 }
 
-// Reads the hierarchy, and gathers its joints in what is lent, which has none yet. Lent, as for the functions that it calls, and not answered: so 128
-// joints lie on the stack once. Answers the text that follows.
+// Reads the hierarchy, and gathers its joints in what is lent, which has none yet. Lent, as for the functions that it calls, and not answered: so
+// nobody hands 128 joints over by value. Answers the text that follows.
 pub fn read<'a>(text: &'a [u8], joints: &mut NamedJoints<'a>) -> Result<&'a [u8], Refusal>
     ensures { joints.old.list.items ≡ [] → Answers text.now result joints.new.list.items (hierarchy text.now) }
 {

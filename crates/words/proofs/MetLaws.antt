@@ -12,7 +12,7 @@ use lib.Dec.{eqb}
 use lib.Pointwise.{pointwise, bytes_decides}
 use borrow.Author.Tests.{le-leb, lt-leb}
 use denote.Ref.{Bor}
-use Rattle.std.specs.Prelude.{Some, None, Result, Ok, Err}
+use Rattle.std.specs.Prelude.{Some, None}
 use Rattle.std.specs.Prelude as found
 use Rattle.std.proofs.lemmas.List.{nil_from_length}
 use Rattle.base.proofs.Cases.{case, lt_ge}

@@ -1,4 +1,5 @@
-use Rattle.std.proofs.Common.{◌≡◌, ◌∙◌, ◌+◌, ◌*◌, ◌-◌, arith, inl, inr, get_or}
+use Rattle.std.proofs.Common.{◌≡◌, ◌∙◌, ap, ℕ, ◌+◌, ◌*◌, ◌-◌, arith, inl, inr, get_or, drop}
+use Rattle.writing.specs.Claims.{value_after}
 use Rattle.words.proofs.MetLaws.{digits_more, digits_less, digits_end, value_more, value_end, value_reaches}
 use Rattle.words.proofs.counts.count_of.Goals as goal
 
@@ -18,7 +19,7 @@ loop-b-preserved c =
     let next : 10 * v + (b - 48) ≡ 10 * v + c.in_ok-digit.digit = omega (arith, c.in_ok-digit.ensures) in
     record {
       digits = inv.digits ∙ digits_more _ _ c.loop-b-test.true (omega (arith, c.in_ok-digit.ensures)) (omega (arith, c.in_ok-digit.ensures));
-      value = rw (← next) (inv.value ∙ value_more _ _ v c.loop-b-test.true);
+      value = inv.value ∙ value_more _ _ v c.loop-b-test.true ∙ ap (λ (k : ℕ). value_after k (drop (c.loop-b.b-index + 1) c.args.word.now)) next;
     }
 
 pub returns-then-most-value : goal.returns-then-most-value
